@@ -4,3 +4,11 @@ pub mod Wire
 pub mod Shelf
 pub mod Sink
 pub mod Crew
+pub mod Memory
+pub mod MemSink
+pub mod MemList
+pub mod MemWire
+pub mod MemFiles
+pub mod MemCrew
+pub mod MemShelf
+pub mod Address

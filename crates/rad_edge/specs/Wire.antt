@@ -1,5 +1,5 @@
 -- What a wire tells: its answers in order, and the datagrams that were handed in, in order. This project's own.
-use Rattle.std.specs.Prelude.{ℕ, ◌≡◌, ◌+◌, ◌-◌, ◌^◌, ◌≤◌, ◌⊎◌, min, take, List, [], ◌∷◌, Bool, IsTrue}
+use Rattle.std.specs.Prelude.{ℕ, ◌≡◌, ◌+◌, ◌-◌, ◌^◌, ◌≤◌, ◌⊎◌, min, take, List, Bool, IsTrue}
 use Rattle.rad_edge.specs.declared.wire.Got.{Got}
 use Rattle.rad_edge.specs.declared.wire.Got.TheVariants as got
 use Rattle.rad_edge.specs.declared.wire.Heard.{Heard}

@@ -1,0 +1,45 @@
+-- A crew in memory: the kits that it has left, and those that it handed out. This project's own.
+use Rattle.std.specs.Prelude.{ℕ, ◌≡◌, ◌++◌, List, [], ◌∷◌, Bool, true, false, Option, Some, None, IfSome, Result, Ok, Err, drop, is_some, if◌then◌else◌}
+use Rattle.std.specs.Borrow.{Bor}
+use Rattle.rad_edge.specs.Memory.{risen}
+use Rattle.rad_edge.specs.Crew.{Handed, handed_by}
+use Rattle.rad_edge.specs.declared.crew.Kit.{Kit}
+use Rattle.rad_edge.specs.declared.listen.Listen.{Listen}
+use Rattle.rad_edge.specs.declared.fault.KitFault.{KitFault}
+use Rattle.rad_edge.specs.declared.fault.KitFault.TheVariants as fault
+
+-- The kits that it has left, in order, those that it handed out, in order, and its count of faults.
+pub record CrewState (W S K U G : Type 0) : Type 0 where
+  pub spares : List (Kit W S K U G)
+  pub handed : List (Handed W S K U G)
+  pub faults : ℕ
+
+-- No ask of the kit's wires failed last, by this count of failures in a row.
+abbrev pub IsFresh : {W S K U G : Type 0} → (W → ℕ) → Kit W S K U G → Type 0
+IsFresh failures kit = (failures kit.wire ≡ 0) × IfSome kit.control (λ wire. failures wire ≡ 0)
+
+-- Whether both are there, or neither is.
+abbrev pub same_presence : Bool → Bool → Bool
+same_presence true true = true
+same_presence true false = false
+same_presence false true = false
+same_presence false false = true
+
+-- The kit that comes next, where it has a control wire exactly as is asked.
+abbrev pub next_kit : {W S K U G : Type 0} → List (Kit W S K U G) → Bool → Option (Kit W S K U G)
+next_kit [] with_control = None
+next_kit (kit ∷ more) with_control = if same_presence (is_some kit.control) with_control then Some kit else None
+
+-- The next kit is handed out where it serves, and else the crew fails. Want of memory says nothing.
+abbrev pub HandsNext : {W S K U G : Type 0} → List (Kit W S K U G) → Bool → Result (Kit W S K U G) KitFault → Type 0
+HandsNext spares with_control (Ok kit) = next_kit spares with_control ≡ Some kit
+HandsNext spares with_control (Err fault.Failed) = next_kit spares with_control ≡ None
+HandsNext spares with_control (Err fault.NoMemory) = Unit {0}
+
+-- What the crew is after a call.
+abbrev pub after_kit : {W S K U G : Type 0} → CrewState W S K U G → ℕ → Listen → Option (Bor Listen) → Result (Kit W S K U G) KitFault → CrewState W S K U G
+after_kit crew worker listen control (Ok kit) =
+    record { spares = drop 1 crew.spares; handed = crew.handed ++ handed_by worker listen control (Ok kit); faults = crew.faults }
+after_kit crew worker listen control (Err fault.Failed) =
+    record { spares = crew.spares; handed = crew.handed; faults = risen crew.faults }
+after_kit crew worker listen control (Err fault.NoMemory) = crew

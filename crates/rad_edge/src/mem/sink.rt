@@ -1,0 +1,65 @@
+ghost use Rattle.std.specs.Prelude.{◌≡◌, [], Some, IfSome, IsErr};
+ghost use Rattle.rad_edge.specs.Telling.{Tells, Counts};
+ghost use Rattle.rad_edge.specs.Sink.{Writes};
+ghost use Rattle.rad_edge.specs.MemSink.{after_write};
+
+use crate::fault::Failed;
+use crate::sink::Sink;
+use std::alloc::Global;
+use std::marker::Model;
+
+/// A sink in memory. It fails only where it finds no memory for its record.
+#[derive(Debug, Drop)]
+pub struct MemSink {
+    written: Vec<u8>,
+    is_telling: bool,
+    faults: u64,
+}
+
+impl Model for MemSink {
+    ghost use Rattle.rad_edge.specs.Memory.{told_while};
+    ghost use Rattle.rad_edge.specs.MemSink.{SinkState};
+
+    ghost Value = { SinkState };
+
+    ghost view = { λ s. record { told = told_while s.is_telling s.written.items; faults = s.faults } };
+}
+
+impl MemSink {
+    /// An empty sink.
+    pub fn new(alloc: Global) -> MemSink
+        ensures { result ≡ record { told = Some []; faults = 0 } }
+    {
+        MemSink {
+            written: Vec::new(alloc),
+            is_telling: true,
+            faults: 0,
+        }
+    }
+
+    /// The octets that were written.
+    pub fn octets(&self) -> &[u8]
+        ensures { IfSome self.now.told (λ told. result.now ≡ told) }
+    {
+        self.written.as_slice()
+    }
+}
+
+impl Sink for MemSink {
+    ghost told = { λ s. s.told };
+
+    ghost faults = { λ s. s.faults };
+
+    fn write(&mut self, bytes: &[u8]) -> Result<(), Failed>
+        ensures told { Tells self.old.told self.new.told (Writes bytes.now result) }
+        ensures faults { Counts self.old.faults self.new.faults (IsErr result) }
+        ensures state { self.new ≡ after_write self.old bytes.now result }
+    {
+        if self.written.extend_from_slice(bytes).is_err() {
+            self.is_telling = false;
+            self.faults = self.faults.saturating_add(1);
+            return Err(Failed);
+        }
+        Ok(())
+    }
+}

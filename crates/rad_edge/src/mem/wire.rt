@@ -1,0 +1,179 @@
+ghost use Rattle.std.specs.Prelude.{◌≡◌, ◌≤◌, ◌++◌, ◌∷◌, [], Some, IfSome, IsErr, is_ok, length, take, OnOk, true};
+ghost use Rattle.rad_edge.specs.Telling.{Tells, Counts};
+ghost use Rattle.rad_edge.specs.Wire.{heard_of, FitsBuffer, failures_after, IsEnding};
+ghost use Rattle.rad_edge.specs.MemWire.{FollowsScript, has_ended, after_recv, after_send, next_answer};
+ghost use Rattle.std.specs.Option.{option_to_list};
+
+use super::room::push_within;
+use crate::fault::{Failed, NoMemory};
+use crate::listen::Peer;
+use crate::octets::Octets;
+use crate::wire::{Got, Heard, Sent, Wire};
+use std::alloc::Global;
+use std::collections::VecDeque;
+use std::marker::Model;
+
+/// What a wire in memory is to answer.
+#[derive(Debug, Drop)]
+pub enum Cue {
+    /// A datagram and its source.
+    Datagram(Octets, Peer),
+    Quiet,
+}
+
+/// A wire in memory, which answers a script and then that it ended. It fails only where it finds no memory for its record.
+#[derive(Debug, Drop)]
+pub struct MemWire {
+    alloc: Global,
+    script: VecDeque<Cue>,
+    heard: Vec<Heard>,
+    sent: Vec<Sent>,
+    is_telling: bool,
+    faults: u64,
+    failures_in_a_row: u64,
+}
+
+impl Model for MemWire {
+    ghost use Rattle.rad_edge.specs.Memory.{told_while};
+    ghost use Rattle.rad_edge.specs.MemWire.{WireState};
+
+    ghost Value = { WireState };
+
+    ghost view = { λ w. record {
+      script = w.script.items;
+      told = told_while w.is_telling (record { heard = w.heard.items; sent = w.sent.items });
+      faults = w.faults;
+      failures_in_a_row = w.failures_in_a_row;
+    } };
+}
+
+impl MemWire {
+    /// A wire that has this script before it.
+    pub fn new(alloc: Global, script: Vec<Cue>) -> MemWire
+        ensures { result ≡ record {
+          script = script.items;
+          told = Some (record { heard = []; sent = [] });
+          faults = 0;
+          failures_in_a_row = 0;
+        } }
+    {
+        MemWire {
+            alloc,
+            script: VecDeque::from_vec(script),
+            heard: Vec::new(alloc),
+            sent: Vec::new(alloc),
+            is_telling: true,
+            faults: 0,
+            failures_in_a_row: 0,
+        }
+    }
+
+    /// The answers so far, in order.
+    pub fn heard(&self) -> &[Heard]
+        ensures { IfSome self.now.told (λ told. result.now ≡ told.heard) }
+    {
+        self.heard.as_slice()
+    }
+
+    /// The datagrams that were handed in, in order.
+    pub fn sent(&self) -> &[Sent]
+        ensures { IfSome self.now.told (λ told. result.now ≡ told.sent) }
+    {
+        self.sent.as_slice()
+    }
+}
+
+impl Wire for MemWire {
+    ghost told = { λ w. w.told };
+
+    ghost faults = { λ w. w.faults };
+
+    ghost failures_in_a_row = { λ w. w.failures_in_a_row };
+
+    ghost has_ended = { has_ended };
+
+    fn recv(&mut self, buffer: &mut [u8; 4096]) -> Got
+        ensures bound { FitsBuffer result }
+        ensures buffer { length buffer.new ≡ 4096 }
+        ensures told { Tells self.old.told self.new.told (λ before now.
+            (now.heard ≡ before.heard ++ heard_of result buffer.new ∷ []) × (now.sent ≡ before.sent)) }
+        ensures faults { Counts self.old.faults self.new.faults (result ≡ Got.Failed) }
+        ensures row { self.new.failures_in_a_row ≡ failures_after result self.old.failures_in_a_row }
+        ensures end { IsEnding (has_ended self.old) (has_ended self.new) result }
+        ensures script { FollowsScript self.old.script (heard_of result buffer.new) }
+        ensures state { self.new ≡ after_recv self.old (heard_of result buffer.new) }
+    {
+        if self.heard.reserve(1).is_err() {
+            self.is_telling = false;
+            self.faults = self.faults.saturating_add(1);
+            self.failures_in_a_row = self.failures_in_a_row.saturating_add(1);
+            return Got::Failed;
+        }
+        let (got, heard) = play(self.script.pop_front(), buffer);
+        push_within(&mut self.heard, heard);
+        self.failures_in_a_row = 0;
+        got
+    }
+
+    fn send(&mut self, to: Peer, bytes: &[u8]) -> Result<(), Failed>
+        ensures told { Tells self.old.told self.new.told (λ before now.
+            (now.heard ≡ before.heard)
+            × (now.sent ≡ before.sent ++ record { to = to; octets = bytes.now; done = is_ok result } ∷ [])) }
+        ensures faults { Counts self.old.faults self.new.faults (IsErr result) }
+        ensures row { self.new.failures_in_a_row ≡ self.old.failures_in_a_row }
+        ensures end { has_ended self.new ≡ has_ended self.old }
+        ensures state { self.new ≡ after_send self.old to bytes.now result }
+    {
+        if push_sent(self.alloc, &mut self.sent, to, bytes).is_err() {
+            self.is_telling = false;
+            self.faults = self.faults.saturating_add(1);
+            return Err(Failed);
+        }
+        Ok(())
+    }
+}
+
+/// The answer to a cue, or to a script that is used up, with the datagram's octets at the buffer's front.
+fn play(cue: Option<Cue>, buffer: &mut [u8; 4096]) -> (Got, Heard)
+    ensures bound { FitsBuffer result.0 }
+    ensures buffer { length buffer.new ≡ 4096 }
+    ensures heard { result.1 ≡ heard_of result.0 buffer.new }
+    ensures answer { result.1 ≡ next_answer (option_to_list cue) }
+{
+    match cue {
+        Some(Cue::Datagram(octets, from)) => {
+            let mut octets = octets.into_vec();
+            octets.truncate(4096);
+            let count = octets.len();
+            fill_front(buffer, octets.as_slice());
+            (
+                Got::Datagram(count, from),
+                Heard::Datagram(Octets::from_vec(octets), from),
+            )
+        }
+        Some(Cue::Quiet) => (Got::Quiet, Heard::Quiet),
+        None => (Got::Ended, Heard::Ended),
+    }
+}
+
+/// Puts the octets at the buffer's front.
+fn fill_front(buffer: &mut [u8; 4096], octets: &[u8])
+    requires { length octets.now ≤ 4096 }
+    ensures len { length buffer.new ≡ 4096 }
+    ensures front { take (length octets.now) buffer.new ≡ octets.now }
+{
+    buffer[..octets.len()].copy_from_slice(octets);
+}
+
+/// Records a datagram that the wire took.
+fn push_sent(alloc: Global, sent: &mut Vec<Sent>, to: Peer, bytes: &[u8]) -> Result<(), NoMemory>
+    ensures ok { OnOk result (sent.new.items ≡ sent.old.items ++ record { to = to; octets = bytes.now; done = true } ∷ []) }
+{
+    let octets = Octets::of(alloc, bytes)?;
+    sent.push(Sent {
+        to,
+        octets,
+        done: true,
+    })?;
+    Ok(())
+}
