@@ -1,0 +1,5 @@
+pub mod Rows
+pub mod BaseAttributes
+pub mod BaseValues
+pub mod Definitions
+pub mod Base

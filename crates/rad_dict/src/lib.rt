@@ -1,0 +1,16 @@
+//! Dictionaries: the names, numbers and kinds of attributes, and the names of their values. The one
+//! model is `Dict`, seen as the list of its attributes and the list of its named values, in the order in
+//! which they were defined; each look-up is the first row that fits, names compared without regard to
+//! ASCII case. Above it stand packets, texts of pairs and policies, which look names and kinds up here.
+#![tactic(auto)]
+
+mod base_attributes;
+mod base_values;
+mod definitions;
+mod dictionary;
+
+pub use definitions::{AttrDef, ValueDef};
+pub use dictionary::Dict;
+
+#[cfg(test)]
+mod tests;

@@ -1,0 +1,14 @@
+-- When two attributes are the same: one space, of one vendor there, and one number (RFC 2865 section 5).
+use Rattle.std.specs.Prelude.{Bool, true, false, ◌&&◌, ◌==◌}
+use Rattle.rad_tables.specs.declared.attributes.AttrId.{AttrId}
+use Rattle.rad_tables.specs.declared.attributes.Space.{Space}
+use Rattle.rad_tables.specs.declared.attributes.Space.TheVariants.{Standard, Vendor, Internal}
+
+abbrev pub same_space : Space → Space → Bool
+same_space Standard Standard = true
+same_space (Vendor v) (Vendor w) = v == w
+same_space Internal Internal = true
+same_space _ _ = false
+
+abbrev pub same_attr : AttrId → AttrId → Bool
+same_attr a b = same_space a.space b.space && a.number == b.number

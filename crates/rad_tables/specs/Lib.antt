@@ -1,0 +1,3 @@
+pub mod ActionList
+pub mod Attribute
+pub mod DefaultActions

@@ -1,0 +1,4 @@
+pub mod Comparison
+pub mod Pairs
+pub mod PairLists
+pub mod Edit

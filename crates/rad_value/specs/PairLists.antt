@@ -1,0 +1,31 @@
+-- The three lists of pairs that a policy works on: the request's, the reply's and the control list
+-- (unlang(5), 'update').
+use Rattle.std.specs.Prelude.{List, []}
+use Rattle.rad_value.specs.declared.values.Pair.{Pair}
+use Rattle.rad_value.specs.declared.edits.ListName.{ListName}
+use Rattle.rad_value.specs.declared.edits.ListName.TheVariants.{Request, Reply, Control}
+
+pub record PairLists : Type 0 where
+  pub request : List Pair
+  pub reply : List Pair
+  pub control : List Pair
+
+-- The list of this name.
+abbrev pub list_of : PairLists → ListName → List Pair
+list_of lists Request = lists.request
+list_of lists Reply = lists.reply
+list_of lists Control = lists.control
+
+-- The three lists with this one in the place of the list of this name.
+abbrev pub with_list : PairLists → ListName → List Pair → PairLists
+with_list lists Request pairs = record lists { request = pairs }
+with_list lists Reply pairs = record lists { reply = pairs }
+with_list lists Control pairs = record lists { control = pairs }
+
+-- Three lists without a pair.
+abbrev pub no_pairs : PairLists
+no_pairs = record {
+  request = [];
+  reply = [];
+  control = [];
+}
