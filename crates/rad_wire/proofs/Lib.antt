@@ -1,0 +1,4 @@
+pub mod AttributeLists
+pub mod Datagrams
+pub mod ProxyStates
+pub mod Replies

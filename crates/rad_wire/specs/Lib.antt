@@ -1,0 +1,4 @@
+pub mod Packet
+pub mod Front
+pub mod Authentic
+pub mod Octets
