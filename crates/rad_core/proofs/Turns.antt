@@ -1,0 +1,147 @@
+-- What one datagram's way through the core adds to the history.
+use Rattle.std.proofs.Common.{ℕ, ◌≡◌, ◌==◌, List, [], ◌∷◌, ◌++◌, Bool, cond, not, filter, Option, Some, None, refl, ap, sym, ◌∙◌, subst, append-nil, ◌+◌, add_assoc}
+use Rattle.std.specs.List.{Contains}
+use Rattle.std.specs.Arc.{arc_value}
+use Rattle.std.proofs.lemmas.List.Elements.{Contains-push}
+use Rattle.rad_wire.specs.declared.cause.DropCause.{DropCause}
+use Rattle.rad_core.specs.declared.arrival.Arrived.{Arrived}
+use Rattle.rad_core.specs.declared.ending.Ending.{Ending}
+use Rattle.rad_core.specs.declared.ending.Ending.TheVariants.{Sent, Withheld, OutOfMemory}
+use Rattle.rad_core.specs.declared.outcome.Outcome.{Outcome}
+use Rattle.rad_core.specs.declared.started.StartAnswer.{StartAnswer}
+use Rattle.rad_core.specs.declared.started.StartAnswer.TheVariants.{Dropped, Fresh, NoRoom}
+use Rattle.rad_core.specs.declared.started.Ticket.{Ticket}
+use Rattle.rad_core.specs.Policy.{Meaning}
+use Rattle.rad_core.specs.State.{ServerState, InProgress, at_moment, with_request}
+use Rattle.rad_core.specs.Entry.{Entry, Start, Finish}
+use Rattle.rad_core.specs.Step.{after, run, IsLegal, Step, Gives}
+use Rattle.rad_core.specs.Answers.{ending_seen, IsHeld, GivesOutcome}
+use Rattle.rad_core.specs.Worker.{At, placed, of_worker, reply_of, IsOutcome, Passes}
+use Rattle.rad_core.proofs.Histories.{same_place}
+
+module _ {P F : Type 0} (meaning : Meaning P F) where
+  -- the row of a fresh request
+  abbrev pub row_for : ServerState P → Arrived → ℕ → P → InProgress P
+  row_for state arrival place generation = record {
+    place = place;
+    arrival = arrival;
+    generation = generation;
+    moment = (at_moment arrival.now state).moment;
+  }
+
+  -- a fresh request stands behind the others
+  pub fresh_table : (state : ServerState P) (arrival : Arrived) (place : ℕ) (generation : P) → state.present ≡ Some generation → (after meaning state (Start arrival (Fresh place))).table ≡ state.table ++ row_for state arrival place generation ∷ []
+  fresh_table state arrival place generation present =
+      ap (λ (o : Option P). let s : ServerState P = elim o [ None ↦ at_moment arrival.now state | Some g ↦ with_request place arrival g (at_moment arrival.now state) ] in s.table) present
+
+  -- the moment after the start of a fresh request
+  pub moment_after : (state mid : ServerState P) (arrival : Arrived) (place : ℕ) (generation : P) → state.present ≡ Some generation → Step meaning state (Start arrival (Fresh place)) mid → mid.moment ≡ (at_moment arrival.now state).moment
+  moment_after state mid arrival place generation present step =
+      ap (λ (s : ServerState P). s.moment) step.next
+      ∙ ap (λ (o : Option P). let s : ServerState P = elim o [ None ↦ at_moment arrival.now state | Some g ↦ with_request place arrival g (at_moment arrival.now state) ] in s.moment) present
+
+  -- a start leaves the present generation, and counts one entry
+  pub present_after : (state : ServerState P) (arrival : Arrived) (place : ℕ) (generation : P) → state.present ≡ Some generation → (after meaning state (Start arrival (Fresh place))).present ≡ state.present
+  present_after state arrival place generation present =
+      ap (λ (o : Option P). let s : ServerState P = elim o [ None ↦ at_moment arrival.now state | Some g ↦ with_request place arrival g (at_moment arrival.now state) ] in s.present) present
+
+  pub count_after : (state : ServerState P) (arrival : Arrived) (place : ℕ) (generation : P) → state.present ≡ Some generation → (after meaning state (Start arrival (Fresh place))).entries + 1 ≡ state.entries + 2
+  count_after state arrival place generation present =
+      ap (λ (o : Option P). let s : ServerState P = elim o [ None ↦ at_moment arrival.now state | Some g ↦ with_request place arrival g (at_moment arrival.now state) ] in (s.entries + 1) + 1) present ∙ add_assoc state.entries 1 1
+
+  -- a fresh start leaves the present generation
+  pub fresh_present : (old mid : ServerState P) (arrival : Arrived) (place : ℕ) → Step meaning old (Start arrival (Fresh place)) mid → mid.present ≡ old.present
+  fresh_present old mid arrival place step =
+      ap (λ (s : ServerState P). s.present) step.next ∙ present_after old arrival place step.may.1.0 step.may.1.1
+
+  -- where nothing was in progress, nothing is after its finish
+  pub idle_again : (state : ServerState P) (arrival : Arrived) (worker place : ℕ) (generation : P) (ending : Ending) → state.table ≡ [] → state.present ≡ Some generation → (run meaning state (Start arrival (Fresh place) ∷ Finish worker place ending ∷ [])).table ≡ []
+  idle_again state arrival worker place generation ending idle present =
+      ap (filter (λ (row : InProgress P). not (row.place == place))) (fresh_table state arrival place generation present ∙ ap (λ rows. rows ++ row_for state arrival place generation ∷ []) idle)
+      ∙ ap (λ b. cond (not b) (row_for state arrival place generation ∷ []) []) (same_place place place refl)
+
+  -- one step is a legal history
+  pub one_step : (old new : ServerState P) (entry : Entry P F) → Step meaning old entry new → IsLegal meaning old (entry ∷ []) × (new ≡ run meaning old (entry ∷ []))
+  one_step old new entry step = ((step.may, tt), step.next)
+
+  pub two_steps : (old mid new : ServerState P) (entry next : Entry P F) → Step meaning old entry mid → Step meaning mid next new → IsLegal meaning old (entry ∷ next ∷ []) × (new ≡ run meaning old (entry ∷ next ∷ []))
+  two_steps old mid new entry next first second =
+      subst (λ (s : ServerState P). Step meaning s next new → IsLegal meaning old (entry ∷ next ∷ []) × (new ≡ run meaning old (entry ∷ next ∷ []))) (sym first.next)
+      (λ (step : Step meaning (after meaning old entry) next new). ((first.may, (step.may, tt)), step.next)) second
+
+  own_start : (state : ServerState P) (arrival : Arrived) (answer : StartAnswer) → of_worker {P = P} {F = F} arrival.worker (placed meaning state (Start arrival answer ∷ [])) ≡ placed meaning state (Start arrival answer ∷ [])
+  own_start state arrival answer =
+      ap (λ b. cond b (placed meaning state (Start arrival answer ∷ [])) []) (same_place arrival.worker arrival.worker refl)
+
+  -- a datagram that is dropped gets no reply
+  pub passes_dropped : (old new : ServerState P) (arrival : Arrived) (luck : ℕ) (cause : DropCause) → old.table ≡ [] → Step meaning old (Start arrival (Dropped cause)) new → Passes meaning old new (Start arrival (Dropped cause) ∷ []) arrival luck []
+  passes_dropped old new arrival luck cause idle step = record {
+    legal = (one_step old new (Start arrival (Dropped cause)) step).0;
+    next = step.next;
+    idle = ap (λ (s : ServerState P). s.table) step.next ∙ idle;
+    present = ap (λ (s : ServerState P). s.present) step.next;
+    count = ap (λ (s : ServerState P). s.entries) step.next;
+    turn = record { serves = refl; answers = refl; closed = (tt, tt); outcome = (tt, refl); own = own_start old arrival (Dropped cause) };
+  }
+
+  pub passes_no_room : (old new : ServerState P) (arrival : Arrived) (luck : ℕ) → old.table ≡ [] → Step meaning old (Start arrival NoRoom) new → Passes meaning old new (Start arrival NoRoom ∷ []) arrival luck []
+  passes_no_room old new arrival luck idle step = record {
+    legal = (one_step old new (Start arrival NoRoom) step).0;
+    next = step.next;
+    idle = ap (λ (s : ServerState P). s.table) step.next ∙ idle;
+    present = ap (λ (s : ServerState P). s.present) step.next;
+    count = ap (λ (s : ServerState P). s.entries) step.next;
+    turn = record { serves = refl; answers = refl; closed = (tt, tt); outcome = (tt, refl); own = own_start old arrival NoRoom };
+  }
+
+  own_both : (state : ServerState P) (arrival : Arrived) (place : ℕ) (ending : Ending) → of_worker {P = P} {F = F} arrival.worker (placed meaning state (Start arrival (Fresh place) ∷ Finish arrival.worker place ending ∷ [])) ≡ placed meaning state (Start arrival (Fresh place) ∷ Finish arrival.worker place ending ∷ [])
+  own_both state arrival place ending =
+      let both = placed meaning state (Start arrival (Fresh place) ∷ Finish arrival.worker place ending ∷ []) in
+      let last = placed meaning (after meaning state (Start arrival (Fresh place))) (Finish arrival.worker place ending ∷ []) in
+      ap (λ b. cond b (At state (Start arrival (Fresh place)) ∷ cond b last []) (cond b last [])) (same_place arrival.worker arrival.worker refl)
+
+  -- a fresh request and its finish
+  pub passes_fresh : (old mid new : ServerState P) (arrival : Arrived) (luck place : ℕ) (ending : Ending) (generation : P) → old.table ≡ [] → old.present ≡ Some generation → IsOutcome meaning generation arrival (at_moment arrival.now old).moment luck (Some ending) → Step meaning old (Start arrival (Fresh place)) mid → Step meaning mid (Finish arrival.worker place ending) new → Passes meaning old new (Start arrival (Fresh place) ∷ Finish arrival.worker place ending ∷ []) arrival luck (reply_of arrival (Some ending))
+  passes_fresh old mid new arrival luck place ending generation idle present given first second =
+      let steps = two_steps old mid new (Start arrival (Fresh place)) (Finish arrival.worker place ending) first second in
+      record {
+        legal = steps.0;
+        next = steps.1;
+        idle = ap (λ (s : ServerState P). s.table) steps.1 ∙ idle_again old arrival arrival.worker place generation ending idle present;
+        present = ap (λ (s : ServerState P). s.present) steps.1 ∙ present_after old arrival place generation present;
+        count = ap (λ (s : ServerState P). s.entries) steps.1 ∙ count_after old arrival place generation present;
+        turn = record {
+          serves = refl;
+          answers = ap (λ b. reply_of arrival (cond b (Some ending) None) ++ []) (same_place place place refl) ∙ append-nil (reply_of arrival (Some ending));
+          closed = (refl, tt);
+          outcome = ((generation, present, subst (λ (o : Option Ending). IsOutcome meaning generation arrival (at_moment arrival.now old).moment luck o) (sym (ap (λ b. cond b (Some ending) None) (same_place place place refl))) given), refl);
+          own = own_both old arrival place ending;
+        };
+      }
+
+  -- what a policy gives doesn't depend on the place
+  gives_at : (row : InProgress P) (luck : ℕ) (answers : List Bool) (ending : Ending) → Gives meaning (record { place = 0; arrival = row.arrival; generation = row.generation; moment = row.moment }) luck answers ending → Gives meaning row luck answers ending
+  gives_at row luck answers (Sent octets) given = given
+  gives_at row luck answers Withheld given = given
+  gives_at row luck answers OutOfMemory given = tt
+
+  -- the request of a ticket is in progress after its start
+  pub held_after_start : (old mid : ServerState P) (arrival : Arrived) (ticket : Ticket P) (luck : ℕ) (outcome : Outcome) → old.present ≡ Some (arc_value ticket.generation) → mid.moment ≡ ticket.moment → Step meaning old (Start arrival (Fresh ticket.place)) mid → GivesOutcome meaning (arc_value ticket.generation) arrival ticket.moment luck outcome → IsHeld meaning mid ticket arrival.worker (ending_seen outcome)
+  held_after_start old mid arrival ticket luck outcome present moment step given =
+      let row : InProgress P = record { place = ticket.place; arrival = arrival; generation = arc_value ticket.generation; moment = ticket.moment } in
+      let table : mid.table ≡ old.table ++ row ∷ [] =
+      ap (λ (s : ServerState P). s.table) step.next ∙ fresh_table old arrival ticket.place (arc_value ticket.generation) present
+      ∙ ap (λ m. old.table ++ record { place = ticket.place; arrival = arrival; generation = arc_value ticket.generation; moment = m } ∷ []) (sym (moment_after old mid arrival ticket.place (arc_value ticket.generation) present step) ∙ moment) in
+      record {
+        may = record {
+          row = row;
+          there = subst (λ (rows : List (InProgress P)). Contains rows row) (sym table) (Contains-push old.table row);
+          place_is = refl;
+          worker_is = refl;
+          luck = luck;
+          answers = given.0;
+          given = gives_at row luck given.0 (ending_seen outcome) given.1;
+        };
+        generation = refl;
+        moment = refl;
+      }

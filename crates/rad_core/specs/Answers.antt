@@ -1,0 +1,82 @@
+-- How the core's Rust values are seen in the history. This project's own.
+use Rattle.std.specs.Prelude.{ℕ, ◌≡◌, ◌≤◌, List, Bool, Some, Result, Ok, Err, length}
+use Rattle.std.specs.Arc.{arc_value}
+use Rattle.std.specs.declared.sync.Arc.{Arc}
+use Rattle.std.specs.declared.alloc.Global.{Global}
+use Rattle.rad_core.specs.declared.arrival.Arrival.{Arrival}
+use Rattle.rad_core.specs.declared.arrival.Arrived.{Arrived}
+use Rattle.rad_core.specs.declared.outcome.Outcome.{Outcome}
+use Rattle.rad_core.specs.declared.outcome.Outcome.TheVariants as outcome
+use Rattle.rad_core.specs.declared.started.Started.{Started}
+use Rattle.rad_core.specs.declared.started.Ticket.{Ticket}
+use Rattle.rad_core.specs.declared.started.Started.TheVariants as started
+use Rattle.rad_core.specs.Policy.{Meaning}
+use Rattle.rad_core.specs.State.{ServerState, with_request}
+use Rattle.rad_core.specs.declared.ending.Ending.{Ending}
+use Rattle.rad_core.specs.declared.ending.Ending.TheVariants.{Sent, Withheld, OutOfMemory}
+use Rattle.rad_core.specs.declared.started.StartAnswer.{StartAnswer}
+use Rattle.rad_core.specs.declared.started.StartAnswer.TheVariants.{Dropped, Fresh, NoRoom}
+use Rattle.rad_core.specs.Step.{Gives, MayFinish}
+
+-- An arrival without where its octets lie.
+abbrev pub arrived_of : Arrival → Arrived
+arrived_of arrival = record {
+  worker = arrival.worker;
+  listener = arrival.listener;
+  kind = arrival.kind;
+  server = arrival.server.now;
+  from = arrival.from;
+  bytes = arrival.bytes.now;
+  now = arrival.now;
+}
+
+-- An outcome without where its octets lie.
+abbrev pub ending_seen : Outcome → Ending
+ending_seen (outcome.Sent octets) = Sent (arc_value octets)
+ending_seen outcome.Withheld = Withheld
+ending_seen outcome.NoMemory = OutOfMemory
+
+-- A start's answer: of a ticket, its place.
+abbrev pub answer_seen : {P : Type 0} → Started P → StartAnswer
+answer_seen (started.Dropped cause) = Dropped cause
+answer_seen (started.Fresh ticket) = Fresh ticket.place
+answer_seen started.NoMemory = NoRoom
+
+-- A load: of a shared generation, the generation.
+abbrev pub load_seen : {P F : Type 0} → Result (Arc P Global) F → Result P F
+load_seen (Ok generation) = Ok (arc_value generation)
+load_seen (Err fault) = Err fault
+
+-- The policy gives this outcome for an arrival, with this luck word and some answers of devices.
+abbrev pub GivesOutcome : {P F : Type 0} → Meaning P F → P → Arrived → ℕ → ℕ → Outcome → Type 0
+GivesOutcome meaning generation arrival moment luck outcome =
+    (answers : List Bool)
+    × Gives meaning (record { place = 0; arrival = arrival; generation = generation; moment = moment }) luck answers (ending_seen outcome)
+
+-- A ticket has the generation and the moment of its place.
+abbrev pub IsTicketOf : {P : Type 0} → ServerState P → Started P → Type 0
+IsTicketOf state (started.Fresh ticket) =
+    (state.present ≡ Some (arc_value ticket.generation)) × (state.moment ≡ ticket.moment) × (ticket.moment ≤ 250000000000)
+IsTicketOf state (started.Dropped cause) = Unit {0}
+IsTicketOf state started.NoMemory = Unit {0}
+
+-- The request is put into the table under a ticket, whose place is the number of entries so far.
+pub record Admits {P : Type 0} (old : ServerState P) (arrival : Arrived) (ticket : Ticket P) (new : ServerState P) : Type 0 where
+  pub present : old.present ≡ Some (arc_value ticket.generation)
+  pub place : ticket.place ≡ old.entries
+  pub moment : ticket.moment ≡ old.moment
+  pub in_time : ticket.moment ≤ 250000000000
+  pub next : new ≡ with_request ticket.place arrival (arc_value ticket.generation) old
+
+-- The request of a ticket is in progress for this worker, under the ticket's generation and moment, and the policy
+-- gives this ending for it.
+pub record IsHeld {P F : Type 0} (meaning : Meaning P F) (state : ServerState P) (ticket : Ticket P) (worker : ℕ) (ending : Ending) : Type 0 where
+  pub may : MayFinish meaning state worker ticket.place ending
+  pub generation : may.row.generation ≡ arc_value ticket.generation
+  pub moment : may.row.moment ≡ ticket.moment
+
+-- A reply has at most 4,096 octets.
+abbrev pub FitsDatagram : Outcome → Type 0
+FitsDatagram (outcome.Sent octets) = length (arc_value octets) ≤ 4096
+FitsDatagram outcome.Withheld = Unit {0}
+FitsDatagram outcome.NoMemory = Unit {0}

@@ -1,0 +1,7 @@
+pub mod Policy
+pub mod State
+pub mod Entry
+pub mod Step
+pub mod Worker
+pub mod Answers
+pub mod Core

@@ -1,0 +1,33 @@
+-- What a policy means. This project's own, after FreeRADIUS' radiusd.conf(5) and unlang(5).
+use Rattle.std.specs.Prelude.{ℕ, ◌≡◌, ◌⊎◌, List, Bool, Option, Result, Ok, Err}
+use Rattle.rad_edge.specs.Files.{File}
+use Rattle.rad_wire.specs.declared.client.Client.{Client}
+use Rattle.rad_core.specs.declared.arrival.Arrived.{Arrived}
+
+-- What a site is built from: the map of its files, and its folder.
+pub record Sources : Type 0 where
+  pub files : List File
+  pub folder : List ℕ
+
+-- What a policy gives for a request: the octets of a reply, or none.
+pub data Reply : Type 0 where
+  Replies : (octets : List ℕ) → Reply
+  Withholds : Reply
+
+-- What a generation means. `access` takes the arrival, the moment, a luck word and the answers that devices give,
+-- true for each that was done.
+pub record Meaning (P F : Type 0) : Type 0 where
+  pub built : Sources → Result P F
+  pub memory_fault : F
+  pub read_fault : F
+  pub client : P → ℕ → Option Client
+  pub has_server : P → List ℕ → Bool
+  pub max_requests : P → ℕ
+  pub cleanup_delay : P → ℕ
+  pub access : P → Arrived → ℕ → ℕ → List Bool → Reply
+
+-- A build answers what the sources mean, or their fault. Want of memory and a read fault say nothing of the sources.
+abbrev pub IsBuilt : {P F : Type 0} → Meaning P F → Sources → Result P F → Type 0
+IsBuilt meaning sources (Ok generation) = meaning.built sources ≡ Ok generation
+IsBuilt meaning sources (Err fault) =
+    (meaning.built sources ≡ Err fault) ⊎ ((fault ≡ meaning.memory_fault) ⊎ (fault ≡ meaning.read_fault))

@@ -1,0 +1,43 @@
+-- The state of the server: the present generation, the moment, and the requests in progress. This project's own.
+use Rattle.std.specs.Prelude.{ℕ, ◌+◌, ◌==◌, min, max, List, [], ◌∷◌, ◌++◌, Option, None, Bool, false, not, filter}
+use Rattle.rad_core.specs.declared.arrival.Arrived.{Arrived}
+
+-- A request in progress: its place in the history, and the generation and the moment of that place.
+pub record InProgress (P : Type 0) : Type 0 where
+  pub place : ℕ
+  pub arrival : Arrived
+  pub generation : P
+  pub moment : ℕ
+
+-- The present generation, the number of generations so far (which is the present one's number), the moment in
+-- seconds, whether a stop came, the number of entries so far, and the table of requests.
+pub record ServerState (P : Type 0) : Type 0 where
+  pub present : Option P
+  pub generations : ℕ
+  pub moment : ℕ
+  pub is_stopped : Bool
+  pub entries : ℕ
+  pub table : List (InProgress P)
+
+-- The state in which nothing has happened.
+abbrev pub opening : {P : Type 0} → ServerState P
+opening = record { present = None; generations = 0; moment = 0; is_stopped = false; entries = 0; table = [] }
+
+-- The moment rule: the moment becomes the greater of itself and the clock's seconds, which are cut at 250,000,000,000.
+abbrev pub at_moment : {P : Type 0} → ℕ → ServerState P → ServerState P
+at_moment now state = record state { moment = max state.moment (min now 250000000000) }
+
+-- One more entry stands in the history.
+abbrev pub counted : {P : Type 0} → ServerState P → ServerState P
+counted state = record state { entries = state.entries + 1 }
+
+-- A request is in progress from now on, under the present generation and moment.
+abbrev pub with_request : {P : Type 0} → ℕ → Arrived → P → ServerState P → ServerState P
+with_request place arrival generation state = record state {
+  table = state.table
+      ++ record { place = place; arrival = arrival; generation = generation; moment = state.moment } ∷ [];
+}
+
+-- The request of this place is in progress no more.
+abbrev pub without_request : {P : Type 0} → ℕ → ServerState P → ServerState P
+without_request place state = record state { table = filter (λ row. not (row.place == place)) state.table }

@@ -1,0 +1,156 @@
+-- Which entries may come next, and the state after them. This project's own; requests after RFC 2865 section 2.
+use Rattle.std.specs.Prelude.{ℕ, ◌≡◌, ◌+◌, ◌⊎◌, List, [], ◌∷◌, Option, Some, None, Result, Ok, Err, Bool, true, if◌then◌else◌, All, Contains}
+use Rattle.rad_edge.specs.declared.listen.Listen.{Listen}
+use Rattle.rad_edge.specs.declared.listen.ListenKind.TheVariants.{Auth, Acct, Control}
+use Rattle.rad_wire.specs.declared.cause.DropCause.{DropCause}
+use Rattle.rad_wire.specs.Packet.{packet_of}
+use Rattle.rad_wire.specs.Authentic.{IsFirstCause, IsAuthentic}
+use Rattle.rad_core.specs.declared.arrival.Arrived.{Arrived}
+use Rattle.rad_core.specs.declared.installed.Installed.{Installed}
+use Rattle.rad_core.specs.declared.installed.Installed.TheVariants as installed
+use Rattle.rad_core.specs.Policy.{Meaning, Replies, Withholds}
+use Rattle.rad_core.specs.State.{ServerState, InProgress, at_moment, counted, with_request, without_request}
+use Rattle.rad_core.specs.declared.ending.Ending.{Ending}
+use Rattle.rad_core.specs.declared.ending.Ending.TheVariants.{Sent, Withheld, OutOfMemory}
+use Rattle.rad_core.specs.declared.started.StartAnswer.{StartAnswer}
+use Rattle.rad_core.specs.declared.started.StartAnswer.TheVariants.{Dropped, Fresh, NoRoom}
+use Rattle.rad_core.specs.Entry.{Entry, Start, Finish, Install}
+
+-- Two arrivals are the same request: one listener, one source, one packet.
+pub record IsSameRequest (a b : Arrived) : Type 0 where
+  pub listener : a.listener ≡ b.listener
+  pub source : a.from ≡ b.from
+  pub packet : packet_of a.bytes ≡ packet_of b.bytes
+
+-- No request in progress is the same as this one.
+abbrev pub IsNew : {P : Type 0} → ServerState P → Arrived → Type 0
+IsNew {P} state arrival = All (λ (row : InProgress P). ¬ IsSameRequest row.arrival arrival) state.table
+
+-- The datagram is authentic under this generation.
+abbrev pub IsAuthenticUnder : {P F : Type 0} → Meaning P F → P → Arrived → Type 0
+IsAuthenticUnder meaning generation arrival =
+    IsAuthentic arrival.bytes (meaning.client generation arrival.from.addr) arrival.kind
+
+-- A start, in the state after the moment rule, under the present generation: it is dropped exactly for the first
+-- cause, it is fresh exactly where the datagram is authentic, and its place is the number of entries before it.
+-- Want of memory comes only where it was due to be fresh.
+abbrev pub MayStart : {P F : Type 0} → Meaning P F → ServerState P → P → Arrived → StartAnswer → Type 0
+MayStart meaning state generation arrival (Dropped cause) =
+    IsFirstCause cause arrival.bytes (meaning.client generation arrival.from.addr) arrival.kind
+MayStart meaning state generation arrival (Fresh place) =
+    IsAuthenticUnder meaning generation arrival × IsNew state arrival × (place ≡ state.entries)
+MayStart meaning state generation arrival NoRoom =
+    IsAuthenticUnder meaning generation arrival × IsNew state arrival
+
+-- Under the present generation the datagram is dropped for this first cause.
+abbrev pub IsDroppedFor : {P F : Type 0} → Meaning P F → ServerState P → Arrived → DropCause → Type 0
+IsDroppedFor {P} meaning state arrival cause = (generation : P) × (state.present ≡ Some generation)
+    × IsFirstCause cause arrival.bytes (meaning.client generation arrival.from.addr) arrival.kind
+
+-- Under the present generation the datagram is authentic.
+abbrev pub IsTaken : {P F : Type 0} → Meaning P F → ServerState P → Arrived → Type 0
+IsTaken {P} meaning state arrival =
+    (generation : P) × (state.present ≡ Some generation) × IsAuthenticUnder meaning generation arrival
+
+-- The policy gives this ending for a request, with this luck word and these answers of devices.
+abbrev pub Gives : {P F : Type 0} → Meaning P F → InProgress P → ℕ → List Bool → Ending → Type 0
+Gives meaning row luck answers (Sent octets) =
+    meaning.access row.generation row.arrival row.moment luck answers ≡ Replies octets
+Gives meaning row luck answers Withheld =
+    meaning.access row.generation row.arrival row.moment luck answers ≡ Withholds
+Gives meaning row luck answers OutOfMemory = Unit {0}
+
+-- A finish: the request of this place is in progress for this worker, and the policy gives its ending under the
+-- generation and the moment of its place, for some luck word and answers.
+pub record MayFinish {P F : Type 0} (meaning : Meaning P F) (state : ServerState P) (worker place : ℕ) (ending : Ending) : Type 0 where
+  pub row : InProgress P
+  pub there : Contains state.table row
+  pub place_is : row.place ≡ place
+  pub worker_is : row.arrival.worker ≡ worker
+  pub luck : ℕ
+  pub answers : List Bool
+  pub given : Gives meaning row luck answers ending
+
+-- Whether a generation has the server of a listener. A control listener is of no server.
+abbrev pub served_by : {P F : Type 0} → Meaning P F → P → Listen → Bool
+served_by meaning generation listen = elim listen.kind [
+  | Auth ↦ meaning.has_server generation listen.server
+  | Acct ↦ meaning.has_server generation listen.server
+  | Control ↦ true
+]
+
+-- The server of the first listener that the generation lacks, if there is one.
+abbrev pub gone_of : {P F : Type 0} → Meaning P F → P → List Listen → Option (List ℕ)
+gone_of meaning generation [] = None
+gone_of meaning generation (listen ∷ more) =
+    if served_by meaning generation listen then gone_of meaning generation more else Some listen.server
+
+-- An install: a generation with a server for each listener is the next one, one that lacks a server is told so, and
+-- a fault is refused. Want of memory may refuse any load.
+abbrev pub MayInstall : {P F : Type 0} → Meaning P F → ServerState P → Result P F → List Listen → Installed F → Type 0
+MayInstall meaning state (Ok generation) listeners (installed.Generation number) =
+    (gone_of meaning generation listeners ≡ None) × (number ≡ state.generations + 1)
+MayInstall meaning state (Ok generation) listeners (installed.ListenerGone name) =
+    gone_of meaning generation listeners ≡ Some name
+MayInstall meaning state (Ok generation) listeners (installed.Refused fault) = fault ≡ meaning.memory_fault
+MayInstall meaning state (Err fault) listeners (installed.Generation number) = ⊥
+MayInstall meaning state (Err fault) listeners (installed.ListenerGone name) = ⊥
+MayInstall meaning state (Err fault) listeners (installed.Refused told) =
+    (told ≡ fault) ⊎ (told ≡ meaning.memory_fault)
+
+-- The entry may come next in this state.
+abbrev pub May : {P F : Type 0} → Meaning P F → ServerState P → Entry P F → Type 0
+May {P} meaning state (Start arrival answer) =
+    (arrival.kind ≡ Auth)
+    × ((generation : P) × (state.present ≡ Some generation)
+    × MayStart meaning (at_moment arrival.now state) generation arrival answer)
+May meaning state (Finish worker place ending) = MayFinish meaning state worker place ending
+May meaning state (Install worker load listeners answer) = MayInstall meaning state load listeners answer
+
+-- The state after a start.
+abbrev pub after_start : {P : Type 0} → ServerState P → Arrived → StartAnswer → ServerState P
+after_start state arrival (Dropped cause) = state
+after_start state arrival NoRoom = state
+after_start state arrival (Fresh place) = elim state.present [
+  | None ↦ state
+  | Some generation ↦ with_request place arrival generation state
+]
+
+-- A start is answered in the state after the moment rule, and leads to a state that doesn't count it yet.
+pub record Judges {P F : Type 0} (meaning : Meaning P F) (old : ServerState P) (arrival : Arrived) (answer : StartAnswer) (new : ServerState P) : Type 0 where
+  pub generation : P
+  pub present : old.present ≡ Some generation
+  pub may : MayStart meaning old generation arrival answer
+  pub next : new ≡ after_start old arrival answer
+
+-- The state after an install.
+abbrev pub after_install : {P F : Type 0} → ServerState P → Result P F → Installed F → ServerState P
+after_install state (Ok generation) (installed.Generation number) =
+    record state { present = Some generation; generations = number }
+after_install state (Ok generation) (installed.ListenerGone name) = state
+after_install state (Ok generation) (installed.Refused fault) = state
+after_install state (Err fault) (installed.Generation number) = state
+after_install state (Err fault) (installed.ListenerGone name) = state
+after_install state (Err fault) (installed.Refused told) = state
+
+-- The state after an entry.
+abbrev pub after : {P F : Type 0} → Meaning P F → ServerState P → Entry P F → ServerState P
+after meaning state (Start arrival answer) =
+    counted (after_start (at_moment arrival.now state) arrival answer)
+after meaning state (Finish worker place ending) = counted (without_request place state)
+after meaning state (Install worker load listeners answer) = counted (after_install state load answer)
+
+-- One step: the entry may come, and the state is the one after it.
+pub record Step {P F : Type 0} (meaning : Meaning P F) (old : ServerState P) (entry : Entry P F) (new : ServerState P) : Type 0 where
+  pub may : May meaning old entry
+  pub next : new ≡ after meaning old entry
+
+-- The state after these entries.
+abbrev pub run : {P F : Type 0} → Meaning P F → ServerState P → List (Entry P F) → ServerState P
+run meaning state [] = state
+run meaning state (entry ∷ more) = run meaning (after meaning state entry) more
+
+-- A legal history: each entry may come in the state after those before it.
+abbrev pub IsLegal : {P F : Type 0} → Meaning P F → ServerState P → List (Entry P F) → Type 0
+IsLegal meaning state [] = Unit {0}
+IsLegal meaning state (entry ∷ more) = May meaning state entry × IsLegal meaning (after meaning state entry) more

@@ -1,0 +1,25 @@
+//! The state machine of requests: what a datagram is answered, and what the server's state is afterwards.
+//! The one model is the server's state with its history of entries, each of which may come in the state before it
+//! and leads to the state after it.
+//! Above it stands the server, which asks it one event at a time; of the policy it knows the trait `Policy` alone.
+#![tactic(auto)]
+
+mod arrival;
+mod ending;
+mod finishes;
+mod installed;
+mod installs;
+mod machine;
+mod outcome;
+mod policy;
+mod row;
+mod started;
+mod starts;
+
+pub use arrival::{Arrival, Arrived};
+pub use ending::Ending;
+pub use installed::Installed;
+pub use machine::Core;
+pub use outcome::Outcome;
+pub use policy::Policy;
+pub use started::{StartAnswer, Started, Ticket};

@@ -1,0 +1,56 @@
+ghost use Rattle.std.specs.Prelude.{◌≤◌};
+
+use crate::policy::Policy;
+use crate::row::Row;
+use rad_edge::Octets;
+use std::alloc::Global;
+use std::sync::Arc;
+
+/// The state of the server behind its history, and the session log.
+#[derive(Drop)]
+pub struct Core<P, L> {
+    pub(crate) alloc: Global,
+    pub(crate) log: L,
+    pub(crate) path: Octets,
+    pub(crate) present: Option<Arc<P>>,
+    pub(crate) generations: u64,
+    pub(crate) moment: u64,
+    pub(crate) is_stopped: bool,
+    pub(crate) entries: u64,
+    pub(crate) table: Vec<Row<P>>,
+    ghost one_each: { generations ≤ entries },
+    ghost in_time: { moment ≤ 250000000000 },
+}
+
+impl<P: Policy, L> Core<P, L> {
+    ghost use Rattle.std.specs.Prelude.{◌≡◌, IsUtf8};
+    ghost use Rattle.rad_core.specs.State.{opening};
+    ghost use Rattle.rad_core.specs.Core.{state_of, log_of};
+
+    /// A core on which nothing has happened, with the session log at a path, which is UTF-8.
+    pub fn new(alloc: Global, log: L, path: Octets) -> Core<P, L>
+        requires { IsUtf8 path }
+        ensures state { state_of result ≡ opening }
+        ensures log { log_of result ≡ log }
+    {
+        Core {
+            alloc,
+            log,
+            path,
+            present: None,
+            generations: 0,
+            moment: 0,
+            is_stopped: false,
+            entries: 0,
+            table: Vec::new(alloc),
+        }
+    }
+
+    /// The log, as the events left it.
+    pub fn into_log(self) -> L
+        ensures { result ≡ log_of self }
+    {
+        let Core { log, .. } = self;
+        log
+    }
+}
