@@ -1,0 +1,9 @@
+pub mod BlockItems
+pub mod Requests
+pub mod Turns
+pub mod Kept
+pub mod Telling
+pub mod Tolds
+pub mod Passes
+pub mod Installs
+pub mod Headlines

@@ -1,0 +1,59 @@
+-- What devices tell over several calls.
+use Rattle.std.proofs.Common.{◌≡◌, ◌++◌, List, [], ◌∷◌, map, Option, Some, None, refl, ap, sym, ◌∙◌, append_assoc}
+use Rattle.std.specs.List.{AllByRecursion}
+use Rattle.std.proofs.lemmas.List.{map-append}
+use Rattle.rad_edge.specs.declared.wire.Heard.{Heard}
+use Rattle.rad_edge.specs.declared.wire.Heard.TheVariants as heard
+use Rattle.rad_edge.specs.Telling.{Tells}
+use Rattle.rad_edge.specs.Wire.{WireTold}
+use Rattle.rad_core.specs.declared.arrival.Arrived.{Arrived}
+use Rattle.rad_core.specs.Worker.{Answer}
+use Rattle.radiusd.specs.Told.{datagram_of, datagrams, answer_of, Hears, Sends, GrowsBy, Datagram}
+
+-- from one call to the next
+pub Tells-trans : {T : Type 0} {R S : T → T → Type 0} (Q : T → T → Type 0) (a b c : Option T) → ((x y z : T) → R x y → S y z → Q x z) → Tells a b R → Tells b c S → Tells a c Q
+Tells-trans Q a b None join first second = tt
+Tells-trans Q a None (Some z) join first second = absurd second
+Tells-trans Q None (Some y) (Some z) join first second = absurd first
+Tells-trans Q (Some x) (Some y) (Some z) join first second = join x y z first second
+
+pub Tells-same : {T : Type 0} (R : T → T → Type 0) (a : Option T) → ((x : T) → R x x) → Tells a a R
+Tells-same R None holds = tt
+Tells-same R (Some x) holds = holds x
+
+pub Tells-weaker : {T : Type 0} {R : T → T → Type 0} (S : T → T → Type 0) (a b : Option T) → ((x y : T) → R x y → S x y) → Tells a b R → Tells a b S
+Tells-weaker S a None weaker tells = tt
+Tells-weaker S None (Some y) weaker tells = absurd tells
+Tells-weaker S (Some x) (Some y) weaker tells = weaker x y tells
+
+pub datagrams-append : (xs ys : List Heard) → datagrams (xs ++ ys) ≡ datagrams xs ++ datagrams ys
+datagrams-append [] ys = refl
+datagrams-append (heard.Datagram octets from ∷ xs) ys = ap (λ (more : List Datagram). record { from = from; octets = octets } ∷ more) (datagrams-append xs ys)
+datagrams-append (heard.Quiet ∷ xs) ys = datagrams-append xs ys
+datagrams-append (heard.Ended ∷ xs) ys = datagrams-append xs ys
+datagrams-append (heard.Failed ∷ xs) ys = datagrams-append xs ys
+
+grown : {X : Type 0} (before mid now xs ys : List X) → mid ≡ before ++ xs → now ≡ mid ++ ys → now ≡ before ++ (xs ++ ys)
+grown before mid now xs ys first second = second ∙ ap (λ l. l ++ ys) first ∙ append_assoc before xs ys
+
+pub Hears-join : (arrivals bs : List Arrived) (x y z : WireTold) → Hears arrivals x y → Hears bs y z → Hears (arrivals ++ bs) x z
+Hears-join arrivals bs x y z first second = (
+  first.0 ++ second.0,
+  grown x.heard y.heard z.heard first.0 second.0 first.1 second.1,
+  datagrams-append first.0 second.0 ∙ ap (λ l. l ++ datagrams second.0) first.2
+      ∙ ap (λ l. map datagram_of arrivals ++ l) second.2 ∙ sym (map-append datagram_of arrivals bs),
+)
+
+pub Sends-join : (arrivals bs : List Answer) (x y z : WireTold) → Sends arrivals x y → Sends bs y z → Sends (arrivals ++ bs) x z
+Sends-join arrivals bs x y z first second = (
+  first.0 ++ second.0,
+  grown x.sent y.sent z.sent first.0 second.0 first.1 second.1,
+  map-append answer_of first.0 second.0 ∙ ap (λ l. l ++ map answer_of second.0) first.2 ∙ ap (λ l. arrivals ++ l) second.2,
+)
+
+pub GrowsBy-join : {X : Type 0} (arrivals bs x y z : List X) → GrowsBy arrivals x y → GrowsBy bs y z → GrowsBy (arrivals ++ bs) x z
+GrowsBy-join arrivals bs x y z first second = grown x y z arrivals bs first second
+
+pub All-append : {X : Type 0} (P : X → Type 0) (xs ys : List X) → AllByRecursion P xs → AllByRecursion P ys → AllByRecursion P (xs ++ ys)
+All-append P [] ys all more = more
+All-append P (x ∷ xs) ys all more = (all.0, All-append P xs ys all.1 more)

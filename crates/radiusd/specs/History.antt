@@ -1,0 +1,53 @@
+-- The history that the hub keeps, and the core's state behind it. This project's own.
+use Rattle.std.specs.Prelude.{◌≡◌, ◌++◌, List, [], ◌∷◌, length, map, Ok, Some, Bool, true, IsTrue}
+use Rattle.std.specs.Arc.{arc_value}
+use Rattle.rad_edge.specs.declared.listen.Listen.{Listen}
+use Rattle.rad_edge.specs.declared.listen.ListenKind.TheVariants.{Auth}
+use Rattle.rad_core.specs.declared.installed.Installed.{Installed}
+use Rattle.rad_core.specs.State.{ServerState, opening}
+use Rattle.rad_core.specs.Entry.{Entry, Start, Finish, Install}
+use Rattle.rad_core.specs.Step.{run, IsLegal}
+use Rattle.radiusd.specs.declared.fault.BuildFault.{BuildFault}
+use Rattle.radiusd.specs.declared.entry.StoredEntry.{StoredEntry}
+use Rattle.radiusd.specs.declared.entry.StoredEntry.TheVariants as stored
+use Rattle.radiusd.specs.Site.{Site}
+use Rattle.radiusd.specs.Meaning.{site_meaning}
+
+-- A stored entry, without where its generation lies.
+abbrev pub entry_seen : StoredEntry → Entry Site BuildFault
+entry_seen (stored.Start arrival answer) = Start arrival answer
+entry_seen (stored.Finish worker place ending) = Finish worker place ending
+entry_seen (stored.Install worker generation listeners answer) = Install worker (Ok (arc_value generation)) listeners.items answer
+
+-- The history of stored entries.
+abbrev pub history_of : List StoredEntry → List (Entry Site BuildFault)
+history_of entries = map entry_seen entries
+
+-- The state after a history, from the opening state.
+abbrev pub state_after : List (Entry Site BuildFault) → ServerState Site
+state_after history = run site_meaning opening history
+
+-- The history is legal, the state is the one after it, and nothing is in progress.
+pub record IsKept (history : List (Entry Site BuildFault)) (state : ServerState Site) : Type 0 where
+  pub legal : IsLegal site_meaning opening history
+  pub state_is : state ≡ state_after history
+  pub idle : state.table ≡ []
+  pub count : state.entries ≡ length history
+
+-- A generation was loaded for these listeners by worker 0: one entry stands at the history's end, and where the
+-- answer says so the generation is the present one.
+pub record Installs (before after : List (Entry Site BuildFault)) (generation : Site) (listeners : List Listen) (is_present : Bool) : Type 0 where
+  pub answer : Installed BuildFault
+  pub grows : after ≡ before ++ Install 0 (Ok generation) listeners answer ∷ []
+  pub legal : IsLegal site_meaning (state_after before) (Install 0 (Ok generation) listeners answer ∷ [])
+  pub present : IsTrue is_present → (state_after after).present ≡ Some generation
+
+-- The history has grown by legal entries.
+abbrev pub Extends : List (Entry Site BuildFault) → List (Entry Site BuildFault) → Type 0
+Extends before after = (added : List (Entry Site BuildFault)) × (after ≡ before ++ added)
+    × IsLegal site_meaning (state_after before) added
+
+-- The generation was installed for its own listener, which is this one, and is the present one.
+pub record IsInstalled (before after : List (Entry Site BuildFault)) (generation : Site) (listen : Listen) : Type 0 where
+  pub installs : Installs before after generation (listen ∷ []) true
+  pub kind : listen.kind ≡ Auth

@@ -1,0 +1,44 @@
+-- The items of a configuration by their form. After the manual page radiusd.conf(5).
+use Rattle.std.specs.Prelude.{ℕ, Bool, false, ◌||◌, List, Option, Some, None, codes, if◌then◌else◌}
+use Rattle.std.specs.Str.{bytes_eq}
+use Rattle.rad_conf.specs.declared.tree.Node.{Node}
+use Rattle.rad_conf.specs.declared.tree.Item.{out-Item}
+use Rattle.rad_conf.specs.declared.tree.Item.TheOpen as level
+
+-- `=` and `:=`
+abbrev pub is_assignment : List ℕ → Bool
+is_assignment operator = bytes_eq operator (codes "=") || bytes_eq operator (codes ":=")
+
+-- The name and the value of an item `name = value` or `name := value`.
+abbrev pub setting_of : Node → Option (List ℕ × List ℕ)
+setting_of node = elim (out-Item node.item) [
+  | level.Pair left operator right ↦ if is_assignment operator then Some (left.text, right.text) else None
+  | level.Name word ↦ None
+  | level.Block kind name body ↦ None
+]
+
+-- Whether an item is a block of this kind, `kind { .. }` or `kind NAME { .. }`.
+abbrev pub is_block : List ℕ → Node → Bool
+is_block wanted node = elim (out-Item node.item) [
+  | level.Pair left operator right ↦ false
+  | level.Name word ↦ false
+  | level.Block kind name body ↦ bytes_eq kind.text wanted
+]
+
+-- The kind and the nodes of a block that has no name.
+abbrev pub plain_block : Node → Option (List ℕ × List Node)
+plain_block node = elim (out-Item node.item) [
+  | level.Pair left operator right ↦ None
+  | level.Name word ↦ None
+  | level.Block kind None body ↦ Some (kind.text, body)
+  | level.Block kind (Some name) body ↦ None
+]
+
+-- The name and the nodes of a block that has a name.
+abbrev pub named_block : Node → Option (List ℕ × List Node)
+named_block node = elim (out-Item node.item) [
+  | level.Pair left operator right ↦ None
+  | level.Name word ↦ None
+  | level.Block kind None body ↦ None
+  | level.Block kind (Some name) body ↦ Some (name.text, body)
+]

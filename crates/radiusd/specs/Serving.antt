@@ -1,0 +1,54 @@
+-- What serving adds: one datagram's whole way, and a run of the serving loop. This project's own.
+use Rattle.std.specs.Prelude.{ℕ, ◌≡◌, ◌++◌, List, [], ◌∷◌}
+use Rattle.rad_edge.specs.declared.crew.Kit.{Kit}
+use Rattle.rad_edge.specs.declared.listen.Listen.{Listen}
+use Rattle.rad_edge.specs.declared.listen.Peer.{Peer}
+use Rattle.rad_edge.specs.Telling.{Tells}
+use Rattle.rad_edge.specs.Wire.{WireTold}
+use Rattle.rad_core.specs.declared.arrival.Arrived.{Arrived}
+use Rattle.rad_core.specs.Entry.{Entry}
+use Rattle.rad_core.specs.Step.{IsLegal}
+use Rattle.rad_core.specs.Worker.{Answer, placed, of_worker}
+use Rattle.radiusd.specs.declared.fault.BuildFault.{BuildFault}
+use Rattle.radiusd.specs.Site.{Site}
+use Rattle.radiusd.specs.Meaning.{site_meaning}
+use Rattle.radiusd.specs.History.{state_after}
+use Rattle.radiusd.specs.Turn.{AddsTurn}
+use Rattle.radiusd.specs.Told.{KitTells, Told, Sends, GrowsBy}
+
+-- The arrival of a datagram at a moment.
+abbrev pub arrival_at : ℕ → ℕ → Listen → Peer → List ℕ → ℕ → Arrived
+arrival_at worker listener listen from octets now = record {
+  worker = worker;
+  listener = listener;
+  kind = listen.kind;
+  server = listen.server;
+  from = from;
+  bytes = octets;
+  now = now;
+}
+
+-- These replies were handed in, and no datagram was asked for.
+abbrev pub OnlySends : List Answer → WireTold → WireTold → Type 0
+OnlySends replies before now = (now.heard ≡ before.heard) × Sends replies before now
+
+-- A datagram that was received has gone its whole way: the clock and the luck were asked once each before its start,
+-- and its replies were handed to the wire.
+pub record Serves {W S K U G : Type 0} (tells : KitTells W K U) (worker : ℕ) (listen : Listen) (before after : List (Entry Site BuildFault)) (old new : Kit W S K U G) (from : Peer) (octets : List ℕ) : Type 0 where
+  pub now : ℕ
+  pub luck : ℕ
+  pub replies : List Answer
+  pub turn : AddsTurn before after (state_after before) (state_after after)
+      (arrival_at worker old.listener listen from octets now) luck replies
+  pub listener : new.listener ≡ old.listener
+  pub wire : Tells (tells.wire old.wire) (tells.wire new.wire) (OnlySends replies)
+  pub clock : Tells (tells.clock old.clock) (tells.clock new.clock) (GrowsBy (now ∷ []))
+  pub word : Tells (tells.luck old.luck) (tells.luck new.luck) (GrowsBy (luck ∷ []))
+
+-- The history has gone on legally by the entries that the kit tells of, under the same generation.
+pub record GoesOn {W S K U G : Type 0} (tells : KitTells W K U) (worker : ℕ) (listen : Listen) (before after : List (Entry Site BuildFault)) (old new : Kit W S K U G) : Type 0 where
+  pub added : List (Entry Site BuildFault)
+  pub grows : after ≡ before ++ added
+  pub legal : IsLegal site_meaning (state_after before) added
+  pub present : (state_after after).present ≡ (state_after before).present
+  pub told : Told tells worker listen old new (of_worker worker (placed site_meaning (state_after before) added))

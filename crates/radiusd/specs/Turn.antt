@@ -1,0 +1,37 @@
+-- What one datagram's whole way adds to the history, and the reply that it leaves in a buffer. This project's own.
+use Rattle.std.specs.Prelude.{ℕ, ◌≡◌, ◌≤◌, ◌++◌, List, [], ◌∷◌, take, Option, Some, None}
+use Rattle.std.specs.Arc.{arc_value}
+use Rattle.rad_core.specs.declared.arrival.Arrived.{Arrived}
+use Rattle.rad_core.specs.declared.outcome.Outcome.{Outcome}
+use Rattle.rad_core.specs.declared.outcome.Outcome.TheVariants as outcome
+use Rattle.rad_core.specs.State.{ServerState}
+use Rattle.rad_core.specs.Entry.{Entry}
+use Rattle.rad_core.specs.Worker.{Answer, Passes}
+use Rattle.radiusd.specs.declared.fault.BuildFault.{BuildFault}
+use Rattle.radiusd.specs.declared.turn.Reply.{Reply}
+use Rattle.radiusd.specs.Site.{Site}
+use Rattle.radiusd.specs.Meaning.{site_meaning}
+
+-- The reply stands at the front of the buffer, where there is one.
+abbrev pub IsCopied : Outcome → Option Reply → List ℕ → Type 0
+IsCopied (outcome.Sent octets) (Some reply) buffer = take reply.length buffer ≡ arc_value octets
+IsCopied (outcome.Sent octets) None buffer = ⊥
+IsCopied outcome.Withheld copied buffer = copied ≡ None
+IsCopied outcome.NoMemory copied buffer = copied ≡ None
+
+-- The reply in the buffer, to the source of its arrival.
+abbrev pub answers_of : Arrived → Option Reply → List ℕ → List Answer
+answers_of arrival None buffer = []
+answers_of arrival (Some reply) buffer = record { to = arrival.from; octets = take reply.length buffer } ∷ []
+
+-- A reply has at most 4,096 octets.
+abbrev pub FitsAnswer : Option Reply → Type 0
+FitsAnswer None = Unit {0}
+FitsAnswer (Some reply) = reply.length ≤ 4096
+
+-- One arrival's way has added entries to the history: they are legal after the state before, and lead to the state
+-- after, with these replies.
+abbrev pub AddsTurn : List (Entry Site BuildFault) → List (Entry Site BuildFault) → ServerState Site → ServerState Site → Arrived → ℕ → List Answer → Type 0
+AddsTurn before after old new arrival luck replies =
+    (added : List (Entry Site BuildFault)) × (after ≡ before ++ added)
+    × Passes site_meaning old new added arrival luck replies

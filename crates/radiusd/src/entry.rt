@@ -1,0 +1,15 @@
+use crate::fault::BuildFault;
+use crate::generation::Generation;
+use rad_core::{Arrived, Ending, Installed, StartAnswer};
+use rad_edge::Listen;
+use std::sync::Arc;
+
+/// An entry of the history as the hub stores it.
+#[derive(Drop)]
+pub(crate) enum StoredEntry {
+    Start(Arrived, StartAnswer),
+    /// The worker, the place and the ending.
+    Finish(u32, u64, Ending),
+    /// The worker, a share of the generation, the listeners and the answer.
+    Install(u32, Arc<Generation>, Vec<Listen>, Installed<BuildFault>),
+}

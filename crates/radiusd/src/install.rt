@@ -1,0 +1,43 @@
+ghost use Rattle.std.specs.Prelude.{◌≡◌, [], ◌∷◌, IfOk, OnErr};
+ghost use Rattle.rad_edge.specs.declared.listen.ListenKind.TheVariants.{Auth};
+ghost use Rattle.radiusd.specs.History.{Extends, IsInstalled};
+
+use crate::generation::Generation;
+use crate::hub::Hub;
+use rad_edge::{Listen, ListenKind, NoMemory, Octets, Shelf};
+use std::alloc::Global;
+use std::sync::Arc;
+
+/// The listener of a generation.
+fn listener_of(alloc: Global, generation: &Generation) -> Result<Listen, NoMemory>
+    ensures { IfOk result (λ listen. listen ≡ record { server = generation.now.server; kind = Auth; at = generation.now.at }) }
+{
+    Ok(Listen {
+        server: Octets::of(alloc, generation.server.as_slice())?,
+        kind: ListenKind::Auth,
+        at: generation.at,
+    })
+}
+
+/// Installs a generation for its own listener, and answers that listener. An install that had no memory is an entry
+/// of the history, too.
+pub(crate) fn install<L: Shelf>(
+    alloc: Global,
+    hub: &mut Hub<L>,
+    generation: Generation,
+) -> Result<Listen, NoMemory>
+    ensures installed { IfOk result (IsInstalled hub.old.history hub.new.history generation) }
+    ensures err { OnErr result (Extends hub.old.history hub.new.history) }
+    ensures log { hub.new.log ≡ hub.old.log }
+{
+    let listen = listener_of(alloc, &generation)?;
+    let mut listeners = Vec::new(alloc);
+    listeners.push(listener_of(alloc, &generation)?)?;
+    let generation = Arc::new(alloc, generation)?;
+    hub.reserve()?;
+    if hub.install(generation, listeners)? {
+        Ok(listen)
+    } else {
+        Err(NoMemory)
+    }
+}

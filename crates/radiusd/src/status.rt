@@ -1,0 +1,32 @@
+/// How a run of the server ended.
+#[derive(Clone, Copy, Debug, PartialEq, Eq)]
+pub(crate) enum Status {
+    /// The wire of the listener ended.
+    Done,
+    /// The words aren't those of the server.
+    Words,
+    /// The configuration has a fault.
+    Configuration,
+    /// A file of the configuration couldn't be read.
+    ReadFault,
+    /// A socket couldn't be had.
+    SocketFault,
+    /// A line couldn't be printed.
+    PrintFault,
+    NoMemory,
+}
+
+impl Status {
+    /// The exit status of the program.
+    pub(crate) fn number(self) -> u8 {
+        match self {
+            Status::Done => 0,
+            Status::Words => 1,
+            Status::Configuration => 2,
+            Status::ReadFault => 3,
+            Status::SocketFault => 4,
+            Status::PrintFault => 6,
+            Status::NoMemory => 8,
+        }
+    }
+}

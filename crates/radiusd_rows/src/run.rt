@@ -1,0 +1,111 @@
+//! A run of the server over devices in memory.
+
+use rad_edge::{
+    Cue, Kit, ListClock, ListLuck, MemCrew, MemFiles, MemShelf, MemSink, MemWire, NoMemory, Octets,
+    OpenGate, Peer, Sent,
+};
+use radiusd::{Hub, radiusd};
+use std::alloc::Global;
+use std::sync::Wait;
+
+/// The kits of memory.
+pub type MemKit = Kit<MemWire, MemShelf, ListClock, ListLuck, OpenGate>;
+
+/// What a run left: its exit status, what it printed, and its kits.
+#[derive(Drop)]
+pub struct Run {
+    pub status: u8,
+    pub out: MemSink,
+    pub kits: Vec<MemKit>,
+}
+
+impl Run {
+    /// The datagrams that were handed to the first wire.
+    pub fn sent(&self) -> &[Sent] {
+        match self.kits.first() {
+            Some(kit) => kit.wire.sent(),
+            None => &[],
+        }
+    }
+}
+
+/// Words of a command line.
+pub fn words_of(alloc: Global, words: &[&str]) -> Result<Vec<String>, NoMemory> {
+    let mut list = Vec::new(alloc);
+    for word in words {
+        list.push(String::from_str(alloc, word)?)?;
+    }
+    Ok(list)
+}
+
+/// Files with this text as the configuration of the folder `site`.
+pub fn files_of(alloc: Global, conf: &[u8]) -> Result<MemFiles, NoMemory> {
+    let mut map = Vec::new(alloc);
+    map.push((
+        Octets::of(alloc, b"site/radiusd.conf")?,
+        Octets::of(alloc, conf)?,
+    ))?;
+    let mut maps = Vec::new(alloc);
+    maps.push(map)?;
+    Ok(MemFiles::new(maps))
+}
+
+/// A hub on which nothing has happened.
+pub fn hub_of(alloc: Global) -> Result<Hub<MemShelf>, NoMemory> {
+    let path = Octets::of(alloc, "radutmp.log".as_bytes())?;
+    Hub::new(alloc, MemShelf::new(alloc), path)
+}
+
+/// A crew with one kit, whose wire gives these datagrams from one source, and whose clock says 1000.
+fn crew_of(
+    alloc: Global,
+    from: Peer,
+    datagrams: &[&[u8]],
+) -> Result<MemCrew<MemWire, MemShelf, ListClock, ListLuck, OpenGate>, NoMemory> {
+    let mut script = Vec::new(alloc);
+    for datagram in datagrams {
+        script.push(Cue::Datagram(Octets::of(alloc, datagram)?, from))?;
+        script.push(Cue::Quiet)?;
+    }
+    let mut moments = Vec::new(alloc);
+    moments.push(1000)?;
+    let mut crew = MemCrew::new(alloc);
+    crew.add(Kit {
+        listener: 0,
+        wire: MemWire::new(alloc, script),
+        control: None,
+        shelf: MemShelf::new(alloc),
+        clock: ListClock::new(moments),
+        luck: ListLuck::new(Vec::new(alloc)),
+        gate: OpenGate,
+    })?;
+    Ok(crew)
+}
+
+/// Runs the server with these words on a site in memory.
+pub fn run_with<R: Wait>(
+    rt: &R,
+    alloc: Global,
+    words: &[&str],
+    conf: &[u8],
+    from: Peer,
+    datagrams: &[&[u8]],
+) -> Result<Run, NoMemory> {
+    let words = words_of(alloc, words)?;
+    let mut files = files_of(alloc, conf)?;
+    let mut crew = crew_of(alloc, from, datagrams)?;
+    let mut hub = hub_of(alloc)?;
+    let mut kits = Vec::new(alloc);
+    let mut out = MemSink::new(alloc);
+    let status = radiusd(
+        rt,
+        alloc,
+        words.as_slice(),
+        &mut files,
+        &mut crew,
+        &mut kits,
+        &mut hub,
+        &mut out,
+    );
+    Ok(Run { status, out, kits })
+}
