@@ -273,7 +273,7 @@ fn sites_are_served(rt: HostRuntime) {
             Some(3),
         ),
         (
-            b"client nas { ipaddr = 001.02.3.004, secret = a/b }\n# no statement at all\nserver default { listen { type = auth }, authorize { } }",
+            b"client nas { ipaddr = 001.02.003.004, secret = a/b }\n# no statement at all\nserver default { listen { type = auth }, authorize { } }",
             Some(3),
         ),
         (
