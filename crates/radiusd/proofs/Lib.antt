@@ -7,3 +7,4 @@ pub mod Tolds
 pub mod Passes
 pub mod Installs
 pub mod Headlines
+pub mod Statuses

@@ -20,3 +20,4 @@ pub mod Words
 pub mod Lines
 pub mod Headline
 pub mod Installing
+pub mod Statuses

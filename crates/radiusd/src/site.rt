@@ -1,5 +1,6 @@
-ghost use Rattle.std.specs.Prelude.{◌≡◌, []};
+ghost use Rattle.std.specs.Prelude.{◌≡◌, [], IfErr};
 ghost use Rattle.radiusd.specs.Headline.{Headline};
+ghost use Rattle.radiusd.specs.Statuses.{IsServing};
 
 use crate::generation::Generation;
 use crate::hub::Hub;
@@ -15,7 +16,9 @@ use std::sync::Wait;
 const WORKER: u32 = 0;
 
 /// Prints a line.
-fn say<O: Sink>(out: &mut O, line: &Octets) -> Result<(), Status> {
+fn say<O: Sink>(out: &mut O, line: &Octets) -> Result<(), Status>
+    ensures { IfErr result IsServing }
+{
     match out.write(line.as_slice()) {
         Ok(()) => Ok(()),
         Err(_) => Err(Status::PrintFault),
@@ -23,7 +26,9 @@ fn say<O: Sink>(out: &mut O, line: &Octets) -> Result<(), Status> {
 }
 
 /// Prints the line of a listener.
-fn say_listening<O: Sink>(alloc: Global, out: &mut O, listen: &Listen) -> Result<(), Status> {
+fn say_listening<O: Sink>(alloc: Global, out: &mut O, listen: &Listen) -> Result<(), Status>
+    ensures { IfErr result IsServing }
+{
     match listening_line(alloc, listen.server.as_slice(), listen.at) {
         Ok(line) => say(out, &line),
         Err(_) => Err(Status::NoMemory),
@@ -37,7 +42,9 @@ fn close<L: Shelf, O: Sink>(
     hub: &Hub<L>,
     from: usize,
     left: Left,
-) -> Status {
+) -> Status
+    ensures { IsServing result }
+{
     match left {
         Left::NoMemory => Status::NoMemory,
         Left::Ended => match counts_line(alloc, hub.counts_from(from)) {
@@ -51,7 +58,9 @@ fn close<L: Shelf, O: Sink>(
 }
 
 /// The status of a crew that handed out no kit, which is printed where a device failed.
-fn without_kit<O: Sink>(out: &mut O, fault: KitFault) -> Status {
+fn without_kit<O: Sink>(out: &mut O, fault: KitFault) -> Status
+    ensures { IsServing result }
+{
     match fault {
         KitFault::NoMemory => Status::NoMemory,
         KitFault::Failed => {
@@ -85,6 +94,7 @@ where
     ensures headline { Headline (record { wire = W.told; clock = K.told; luck = U.told }) (C.told crew.old)
         (C.told crew.new) hub.old.history hub.new.history kits.new.items }
     ensures log { hub.new.log ≡ hub.old.log }
+    ensures serving { IsServing result }
 {
     let from = hub.length();
     let Ok(listen) = install(alloc, hub, generation) else {

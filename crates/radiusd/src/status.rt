@@ -1,3 +1,6 @@
+ghost use Rattle.std.specs.Prelude.{◌≡◌};
+ghost use Rattle.radiusd.specs.Statuses.{number_of};
+
 /// How a run of the server ended.
 #[derive(Clone, Copy, Debug, PartialEq, Eq)]
 pub(crate) enum Status {
@@ -18,7 +21,9 @@ pub(crate) enum Status {
 
 impl Status {
     /// The exit status of the program.
-    pub(crate) fn number(self) -> u8 {
+    pub(crate) fn number(self) -> u8
+        ensures { result ≡ number_of self }
+    {
         match self {
             Status::Done => 0,
             Status::Words => 1,
