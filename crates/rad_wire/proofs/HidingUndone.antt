@@ -6,7 +6,7 @@ use Rattle.std.proofs.lemmas.List.{length-append, length-drop, length-replicate,
 use lib.Bits.{xor_assoc}
 use Rattle.md5.specs.Md5.{md5}
 use Rattle.md5.proofs.StandardFacts.{length-md5}
-use Rattle.rad_wire.specs.Hiding.{padding_after, padded, blocks_in, blocks_of, xored, hidden_blocks, revealed_blocks, hidden, revealed, without_trailing_zeros, IsHiddenLength, HasNoTrailingZero}
+use Rattle.rad_wire.specs.Hiding.{padding_after, padded, blocks_in, xored, hidden_blocks, revealed_blocks, hidden, revealed, without_trailing_zeros, IsHiddenLength, HasNoTrailingZero}
 use Rattle.rad_wire.proofs.HiddenBlocks.{xored-length}
 use Rattle.rad_wire.proofs.TrailingZeros.{zeros_at_end, no_zero_at_end}
 

@@ -1,5 +1,5 @@
 -- How a User-Password is hidden: RFC 2865 section 5.2.
-use Rattle.std.specs.Prelude.{ℕ, zero, suc, ◌≡◌, ◌<◌, ◌≤◌, ◌+◌, ◌-◌, ◌/◌, ◌%◌, ◌^◌, min, List, [], ◌∷◌, ◌++◌, length, take, drop, reverse, replicate, bit_xor}
+use Rattle.std.specs.Prelude.{ℕ, zero, suc, ◌≡◌, ◌<◌, ◌≤◌, ◌-◌, ◌/◌, ◌%◌, ◌^◌, min, List, [], ◌∷◌, ◌++◌, length, take, drop, reverse, replicate, bit_xor}
 use Rattle.md5.specs.Md5.{md5}
 use Rattle.rad_wire.specs.declared.hiding.HideFault.{HideFault}
 use Rattle.rad_wire.specs.declared.hiding.HideFault.TheVariants as hide_fault

@@ -1,4 +1,4 @@
-use Rattle.std.proofs.Common.{◌≡◌, ◌<◌, length, arith, rules}
+use Rattle.std.proofs.Common.{◌≡◌, ◌<◌, length, rules}
 use Rattle.rad_wire.proofs.HiddenBlocks.{Reveals-more, Reveals-end}
 use Rattle.rad_wire.proofs.block.reveal_blocks.Goals as goal
 
