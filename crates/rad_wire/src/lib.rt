@@ -5,9 +5,11 @@
 #![tactic(auto)]
 
 mod attributes;
+mod block;
 mod cause;
 mod checking;
 mod client;
+mod hiding;
 mod laws;
 mod proxy_state;
 mod reply;
@@ -15,8 +17,11 @@ mod reply;
 pub use cause::DropCause;
 pub use checking::{Checked, check};
 pub use client::Client;
+pub use hiding::{HideFault, RevealFault, hidden_passwords_are_revealed, hide, reveal};
 pub use laws::{attributes_have_one_reading, authentic_has_no_cause};
 pub use reply::empty_reply;
 
+#[cfg(test)]
+mod hiding_tests;
 #[cfg(test)]
 mod tests;
