@@ -16,7 +16,7 @@ use Rattle.rad_core.specs.State.{ServerState, InProgress, at_moment, with_reques
 use Rattle.rad_core.specs.Entry.{Entry, Start, Finish}
 use Rattle.rad_core.specs.Step.{after, run, IsLegal, Step, Gives}
 use Rattle.rad_core.specs.Answers.{ending_seen, IsHeld, GivesOutcome}
-use Rattle.rad_core.specs.Worker.{At, placed, of_worker, reply_of, IsOutcome, Passes}
+use Rattle.rad_core.specs.Worker.{reply_of, IsOutcome, Passes}
 use Rattle.rad_core.proofs.Histories.{same_place}
 
 module _ {P F : Type 0} (meaning : Meaning P F) where
@@ -69,10 +69,6 @@ module _ {P F : Type 0} (meaning : Meaning P F) where
       subst (λ (s : ServerState P). Step meaning s next new → IsLegal meaning old (entry ∷ next ∷ []) × (new ≡ run meaning old (entry ∷ next ∷ []))) (sym first.next)
       (λ (step : Step meaning (after meaning old entry) next new). ((first.may, (step.may, tt)), step.next)) second
 
-  own_start : (state : ServerState P) (arrival : Arrived) (answer : StartAnswer) → of_worker {P = P} {F = F} arrival.worker (placed meaning state (Start arrival answer ∷ [])) ≡ placed meaning state (Start arrival answer ∷ [])
-  own_start state arrival answer =
-      ap (λ b. cond b (placed meaning state (Start arrival answer ∷ [])) []) (same_place arrival.worker arrival.worker refl)
-
   -- a datagram that is dropped gets no reply
   pub passes_dropped : (old new : ServerState P) (arrival : Arrived) (luck : ℕ) (cause : DropCause) → old.table ≡ [] → Step meaning old (Start arrival (Dropped cause)) new → Passes meaning old new (Start arrival (Dropped cause) ∷ []) arrival luck []
   passes_dropped old new arrival luck cause idle step = record {
@@ -81,7 +77,8 @@ module _ {P F : Type 0} (meaning : Meaning P F) where
     idle = ap (λ (s : ServerState P). s.table) step.next ∙ idle;
     present = ap (λ (s : ServerState P). s.present) step.next;
     count = ap (λ (s : ServerState P). s.entries) step.next;
-    turn = record { serves = refl; answers = refl; closed = (tt, tt); outcome = (tt, refl); own = own_start old arrival (Dropped cause) };
+    turn = record { serves = refl; asks = refl; answers = refl; closed = (tt, tt); outcome = (tt, refl); service = (refl, tt) };
+    named = (refl, tt);
   }
 
   pub passes_no_room : (old new : ServerState P) (arrival : Arrived) (luck : ℕ) → old.table ≡ [] → Step meaning old (Start arrival NoRoom) new → Passes meaning old new (Start arrival NoRoom ∷ []) arrival luck []
@@ -91,14 +88,9 @@ module _ {P F : Type 0} (meaning : Meaning P F) where
     idle = ap (λ (s : ServerState P). s.table) step.next ∙ idle;
     present = ap (λ (s : ServerState P). s.present) step.next;
     count = ap (λ (s : ServerState P). s.entries) step.next;
-    turn = record { serves = refl; answers = refl; closed = (tt, tt); outcome = (tt, refl); own = own_start old arrival NoRoom };
+    turn = record { serves = refl; asks = refl; answers = refl; closed = (tt, tt); outcome = (tt, refl); service = (refl, tt) };
+    named = (refl, tt);
   }
-
-  own_both : (state : ServerState P) (arrival : Arrived) (place : ℕ) (ending : Ending) → of_worker {P = P} {F = F} arrival.worker (placed meaning state (Start arrival (Fresh place) ∷ Finish arrival.worker place ending ∷ [])) ≡ placed meaning state (Start arrival (Fresh place) ∷ Finish arrival.worker place ending ∷ [])
-  own_both state arrival place ending =
-      let both = placed meaning state (Start arrival (Fresh place) ∷ Finish arrival.worker place ending ∷ []) in
-      let last = placed meaning (after meaning state (Start arrival (Fresh place))) (Finish arrival.worker place ending ∷ []) in
-      ap (λ b. cond b (At state (Start arrival (Fresh place)) ∷ cond b last []) (cond b last [])) (same_place arrival.worker arrival.worker refl)
 
   -- a fresh request and its finish
   pub passes_fresh : (old mid new : ServerState P) (arrival : Arrived) (luck place : ℕ) (ending : Ending) (generation : P) → old.table ≡ [] → old.present ≡ Some generation → IsOutcome meaning generation arrival (at_moment arrival.now old).moment luck (Some ending) → Step meaning old (Start arrival (Fresh place)) mid → Step meaning mid (Finish arrival.worker place ending) new → Passes meaning old new (Start arrival (Fresh place) ∷ Finish arrival.worker place ending ∷ []) arrival luck (reply_of arrival (Some ending))
@@ -112,11 +104,13 @@ module _ {P F : Type 0} (meaning : Meaning P F) where
         count = ap (λ (s : ServerState P). s.entries) steps.1 ∙ count_after old arrival place generation present;
         turn = record {
           serves = refl;
+          asks = refl;
           answers = ap (λ b. reply_of arrival (cond b (Some ending) None) ++ []) (same_place place place refl) ∙ append-nil (reply_of arrival (Some ending));
           closed = (refl, tt);
           outcome = ((generation, present, subst (λ (o : Option Ending). IsOutcome meaning generation arrival (at_moment arrival.now old).moment luck o) (sym (ap (λ b. cond b (Some ending) None) (same_place place place refl))) given), refl);
-          own = own_both old arrival place ending;
+          service = (refl, (refl, tt));
         };
+        named = (refl, (refl, tt));
       }
 
   -- what a policy gives doesn't depend on the place

@@ -1,6 +1,7 @@
 -- The state of the server: the present generation, the moment, and the requests in progress. This project's own.
-use Rattle.std.specs.Prelude.{ℕ, ◌+◌, ◌==◌, min, max, List, [], ◌∷◌, ◌++◌, Option, None, Bool, false, not, filter}
+use Rattle.std.specs.Prelude.{ℕ, ◌+◌, ◌-◌, ◌^◌, ◌==◌, min, max, List, [], ◌∷◌, ◌++◌, length, Option, Some, None, Bool, true, false, not, filter}
 use Rattle.rad_core.specs.declared.arrival.Arrived.{Arrived}
+use Rattle.rad_core.specs.declared.seen.Seen.{Seen}
 
 -- A request in progress: its place in the history, and the generation and the moment of that place.
 pub record InProgress (P : Type 0) : Type 0 where
@@ -41,3 +42,20 @@ with_request place arrival generation state = record state {
 -- The request of this place is in progress no more.
 abbrev pub without_request : {P : Type 0} → ℕ → ServerState P → ServerState P
 without_request place state = record state { table = filter (λ row. not (row.place == place)) state.table }
+
+-- A stop came, and stands from now on.
+abbrev pub after_stop : {P : Type 0} → ServerState P → ServerState P
+after_stop state = record state { is_stopped = true }
+
+-- The number of the present generation, or 0 where there is none.
+abbrev pub present_number : {P : Type 0} → ServerState P → ℕ
+present_number state = elim state.present [ None ↦ 0 | Some generation ↦ state.generations ]
+
+-- What a look shows of a state. No session is kept yet. The number of requests is cut at the end of its 32 bits.
+abbrev pub seen_of : {P : Type 0} → ServerState P → Seen
+seen_of state = record {
+  generation = present_number state;
+  sessions = 0;
+  requests = min (length state.table) (2 ^ 32 - 1);
+  stopped = state.is_stopped;
+}

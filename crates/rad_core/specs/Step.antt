@@ -9,12 +9,12 @@ use Rattle.rad_core.specs.declared.arrival.Arrived.{Arrived}
 use Rattle.rad_core.specs.declared.installed.Installed.{Installed}
 use Rattle.rad_core.specs.declared.installed.Installed.TheVariants as installed
 use Rattle.rad_core.specs.Policy.{Meaning, Replies, Withholds}
-use Rattle.rad_core.specs.State.{ServerState, InProgress, at_moment, counted, with_request, without_request}
+use Rattle.rad_core.specs.State.{ServerState, InProgress, at_moment, counted, with_request, without_request, after_stop, seen_of}
 use Rattle.rad_core.specs.declared.ending.Ending.{Ending}
 use Rattle.rad_core.specs.declared.ending.Ending.TheVariants.{Sent, Withheld, OutOfMemory}
 use Rattle.rad_core.specs.declared.started.StartAnswer.{StartAnswer}
 use Rattle.rad_core.specs.declared.started.StartAnswer.TheVariants.{Dropped, Fresh, NoRoom}
-use Rattle.rad_core.specs.Entry.{Entry, Start, Finish, Install}
+use Rattle.rad_core.specs.Entry.{Entry, Start, Finish, Install, Look, Stop}
 
 -- Two arrivals are the same request: one listener, one source, one packet.
 pub record IsSameRequest (a b : Arrived) : Type 0 where
@@ -98,7 +98,7 @@ MayInstall meaning state (Err fault) listeners (installed.ListenerGone name) = �
 MayInstall meaning state (Err fault) listeners (installed.Refused told) =
     (told ≡ fault) ⊎ (told ≡ meaning.memory_fault)
 
--- The entry may come next in this state.
+-- The entry may come next in this state. A look shows the state as it is, and a stop may always come.
 abbrev pub May : {P F : Type 0} → Meaning P F → ServerState P → Entry P F → Type 0
 May {P} meaning state (Start arrival answer) =
     (arrival.kind ≡ Auth)
@@ -106,6 +106,8 @@ May {P} meaning state (Start arrival answer) =
     × MayStart meaning (at_moment arrival.now state) generation arrival answer)
 May meaning state (Finish worker place ending) = MayFinish meaning state worker place ending
 May meaning state (Install worker load listeners answer) = MayInstall meaning state load listeners answer
+May meaning state (Look worker seen) = seen ≡ seen_of state
+May meaning state (Stop worker) = Unit {0}
 
 -- The state after a start.
 abbrev pub after_start : {P : Type 0} → ServerState P → Arrived → StartAnswer → ServerState P
@@ -139,6 +141,8 @@ after meaning state (Start arrival answer) =
     counted (after_start (at_moment arrival.now state) arrival answer)
 after meaning state (Finish worker place ending) = counted (without_request place state)
 after meaning state (Install worker load listeners answer) = counted (after_install state load answer)
+after meaning state (Look worker seen) = counted state
+after meaning state (Stop worker) = counted (after_stop state)
 
 -- One step: the entry may come, and the state is the one after it.
 pub record Step {P F : Type 0} (meaning : Meaning P F) (old : ServerState P) (entry : Entry P F) (new : ServerState P) : Type 0 where

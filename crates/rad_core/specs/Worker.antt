@@ -1,5 +1,6 @@
 -- What a history says of one worker. This project's own.
-use Rattle.std.specs.Prelude.{ℕ, ◌≡◌, ◌==◌, ◌+◌, length, List, [], ◌∷◌, ◌++◌, filter, if◌then◌else◌, Bool, Option, Some, None}
+use Rattle.std.specs.Prelude.{ℕ, ◌≡◌, ◌==◌, ◌+◌, length, List, [], ◌∷◌, ◌++◌, filter, if◌then◌else◌, Bool, true, false, IsTrue, Option, Some, None}
+use Rattle.std.specs.List.{AllByRecursion}
 use Rattle.rad_edge.specs.declared.listen.Peer.{Peer}
 use Rattle.rad_core.specs.declared.arrival.Arrived.{Arrived}
 use Rattle.rad_core.specs.declared.ending.Ending.{Ending}
@@ -8,7 +9,7 @@ use Rattle.rad_core.specs.declared.started.StartAnswer.{StartAnswer}
 use Rattle.rad_core.specs.declared.started.StartAnswer.TheVariants.{Dropped, Fresh, NoRoom}
 use Rattle.rad_core.specs.Policy.{Meaning}
 use Rattle.rad_core.specs.State.{ServerState, at_moment}
-use Rattle.rad_core.specs.Entry.{Entry, Start, Finish, Install, worker_of}
+use Rattle.rad_core.specs.Entry.{Entry, Start, Finish, Install, Look, Stop, worker_of}
 use Rattle.rad_core.specs.Step.{after, run, IsLegal, Gives}
 
 -- An entry with the state before it.
@@ -34,6 +35,17 @@ served [] = []
 served (At before (Start arrival answer) ∷ more) = arrival ∷ served more
 served (At before (Finish worker place ending) ∷ more) = served more
 served (At before (Install worker load listeners answer) ∷ more) = served more
+served (At before (Look worker seen) ∷ more) = served more
+served (At before (Stop worker) ∷ more) = served more
+
+-- What came of a worker's asks, in order: the arrival of each start, and nothing at each look.
+abbrev pub asked : {P F : Type 0} → List (Placed P F) → List (Option Arrived)
+asked [] = []
+asked (At before (Start arrival answer) ∷ more) = Some arrival ∷ asked more
+asked (At before (Finish worker place ending) ∷ more) = asked more
+asked (At before (Install worker load listeners answer) ∷ more) = asked more
+asked (At before (Look worker seen) ∷ more) = None ∷ asked more
+asked (At before (Stop worker) ∷ more) = asked more
 
 -- How the request of a place ended, looked for in what follows its start.
 abbrev pub ending_of : {P F : Type 0} → ℕ → List (Placed P F) → Option Ending
@@ -42,6 +54,8 @@ ending_of place (At before (Start arrival answer) ∷ more) = ending_of place mo
 ending_of place (At before (Finish worker finished ending) ∷ more) =
     if finished == place then Some ending else ending_of place more
 ending_of place (At before (Install worker load listeners answer) ∷ more) = ending_of place more
+ending_of place (At before (Look worker seen) ∷ more) = ending_of place more
+ending_of place (At before (Stop worker) ∷ more) = ending_of place more
 
 -- A reply: to whom, and its octets.
 pub record Answer : Type 0 where
@@ -67,6 +81,8 @@ answered [] = []
 answered (At before (Start arrival answer) ∷ more) = replies_of arrival answer more ++ answered more
 answered (At before (Finish worker place ending) ∷ more) = answered more
 answered (At before (Install worker load listeners answer) ∷ more) = answered more
+answered (At before (Look worker seen) ∷ more) = answered more
+answered (At before (Stop worker) ∷ more) = answered more
 
 -- What comes next is the finish of this place.
 abbrev pub BeginsWithFinish : {P F : Type 0} → ℕ → List (Placed P F) → Type 0
@@ -74,6 +90,8 @@ BeginsWithFinish place [] = ⊥
 BeginsWithFinish place (At before (Start arrival answer) ∷ more) = ⊥
 BeginsWithFinish place (At before (Finish worker finished ending) ∷ more) = finished ≡ place
 BeginsWithFinish place (At before (Install worker load listeners answer) ∷ more) = ⊥
+BeginsWithFinish place (At before (Look worker seen) ∷ more) = ⊥
+BeginsWithFinish place (At before (Stop worker) ∷ more) = ⊥
 
 -- What has to follow a start: after a fresh one its finish comes next.
 abbrev pub IsFollowed : {P F : Type 0} → StartAnswer → List (Placed P F) → Type 0
@@ -87,6 +105,8 @@ IsClosed [] = Unit {0}
 IsClosed (At before (Start arrival answer) ∷ more) = IsFollowed answer more × IsClosed more
 IsClosed (At before (Finish worker place ending) ∷ more) = IsClosed more
 IsClosed (At before (Install worker load listeners answer) ∷ more) = IsClosed more
+IsClosed (At before (Look worker seen) ∷ more) = IsClosed more
+IsClosed (At before (Stop worker) ∷ more) = IsClosed more
 
 -- The policy gives the ending of this arrival under a generation, at a moment, with this luck word and some answers
 -- of devices. Where it hasn't ended, nothing is said.
@@ -113,20 +133,40 @@ HaveOutcomes meaning (word ∷ words) (At before (Start arrival answer) ∷ more
     HasOutcome meaning before arrival word answer more × HaveOutcomes meaning words more
 HaveOutcomes meaning words (At before (Finish worker place ending) ∷ more) = HaveOutcomes meaning words more
 HaveOutcomes meaning words (At before (Install worker load listeners answer) ∷ more) = HaveOutcomes meaning words more
+HaveOutcomes meaning words (At before (Look worker seen) ∷ more) = HaveOutcomes meaning words more
+HaveOutcomes meaning words (At before (Stop worker) ∷ more) = HaveOutcomes meaning words more
+
+-- What a worker adds while it serves: starts, finishes and looks.
+abbrev pub is_service : {P F : Type 0} → Placed P F → Bool
+is_service (At before (Start arrival answer)) = true
+is_service (At before (Finish worker place ending)) = true
+is_service (At before (Install worker load listeners answer)) = false
+is_service (At before (Look worker seen)) = true
+is_service (At before (Stop worker)) = false
+
+-- The worker has neither loaded a generation nor stopped the server.
+abbrev pub OnlyServes : {P F : Type 0} → List (Placed P F) → Type 0
+OnlyServes mine = AllByRecursion (λ entry. IsTrue (is_service entry)) mine
 
 -- What one arrival adds to its worker's entries: itself with this luck word, and the replies to it.
 pub record IsTurn {P F : Type 0} (meaning : Meaning P F) (arrival : Arrived) (luck : ℕ) (replies : List Answer) (mine : List (Placed P F)) : Type 0 where
   pub serves : served mine ≡ arrival ∷ []
+  pub asks : asked mine ≡ Some arrival ∷ []
   pub answers : answered mine ≡ replies
   pub closed : IsClosed mine
   pub outcome : HaveOutcomes meaning (luck ∷ []) mine
-  pub own : of_worker arrival.worker mine ≡ mine
+  pub service : OnlyServes mine
 
--- What one arrival adds to the history, from a state to a state with nothing in progress.
+-- The entry is this worker's.
+abbrev pub IsOwn : {P F : Type 0} → ℕ → Entry P F → Type 0
+IsOwn worker entry = worker_of entry ≡ worker
+
+-- What one arrival adds to the history, from a state to a state with nothing in progress. All of it is its worker's.
 pub record Passes {P F : Type 0} (meaning : Meaning P F) (old new : ServerState P) (added : List (Entry P F)) (arrival : Arrived) (luck : ℕ) (replies : List Answer) : Type 0 where
   pub legal : IsLegal meaning old added
   pub next : new ≡ run meaning old added
   pub idle : new.table ≡ []
   pub present : new.present ≡ old.present
   pub count : new.entries ≡ old.entries + length added
+  pub named : AllByRecursion (IsOwn arrival.worker) added
   pub turn : IsTurn meaning arrival luck replies (placed meaning old added)

@@ -9,10 +9,12 @@ mod ending;
 mod finishes;
 mod installed;
 mod installs;
+mod looks;
 mod machine;
 mod outcome;
 mod policy;
 mod row;
+mod seen;
 mod started;
 mod starts;
 
@@ -22,4 +24,5 @@ pub use installed::Installed;
 pub use machine::Core;
 pub use outcome::Outcome;
 pub use policy::Policy;
+pub use seen::Seen;
 pub use started::{StartAnswer, Started, Ticket};

@@ -47,7 +47,8 @@ pub trait Policy: Drop {
     fn cleanup_delay(&self) -> u32
         ensures { result ≡ meaning.cleanup_delay self.now };
 
-    /// What an authentic access request is answered, at this moment and with this luck word.
+    /// What an authentic access request is answered, at this moment and with this luck word. No policy appends to the
+    /// shelf yet.
     fn access<S: Shelf>(
         &self,
         alloc: Global,
@@ -60,5 +61,6 @@ pub trait Policy: Drop {
         requires auth { arrival.now.kind ≡ Auth }
         requires moment { moment ≤ 250000000000 }
         ensures outcome { GivesOutcome meaning self.now (arrived_of arrival.entry.now) moment luck result }
-        ensures limit { FitsDatagram result };
+        ensures limit { FitsDatagram result }
+        ensures shelf { shelf.new ≡ shelf.old };
 }

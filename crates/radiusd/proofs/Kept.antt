@@ -1,15 +1,15 @@
 -- The hub's invariant over what is added.
-use Rattle.std.proofs.Common.{ℕ, ◌≡◌, ◌+◌, ◌++◌, List, [], length, ap, sym, ◌∙◌, subst, length-append}
+use Rattle.std.proofs.Common.{ℕ, ◌≡◌, ◌+◌, ◌++◌, List, [], ◌∷◌, length, ap, sym, ◌∙◌, subst, length-append}
 use Rattle.rad_core.specs.declared.arrival.Arrived.{Arrived}
 use Rattle.rad_core.specs.State.{ServerState, opening}
 use Rattle.rad_core.specs.Entry.{Entry}
-use Rattle.rad_core.specs.Step.{run, IsLegal}
+use Rattle.rad_core.specs.Step.{run, May, Step, IsLegal}
 use Rattle.rad_core.specs.Worker.{Answer}
 use Rattle.rad_core.proofs.Histories.{run-append, IsLegal-append}
 use Rattle.radiusd.specs.declared.fault.BuildFault.{BuildFault}
 use Rattle.radiusd.specs.Site.{Site}
 use Rattle.radiusd.specs.Meaning.{site_meaning}
-use Rattle.radiusd.specs.History.{IsKept, state_after}
+use Rattle.radiusd.specs.History.{IsKept, state_after, Adds}
 use Rattle.radiusd.specs.Turn.{AddsTurn}
 
 module _ (before after : List (Entry Site BuildFault)) (old new : ServerState Site) where
@@ -39,3 +39,15 @@ module _ (before after : List (Entry Site BuildFault)) (old new : ServerState Si
   turn_of_histories arrival luck replies was is turn =
       subst (λ (s : ServerState Site). AddsTurn before after (state_after before) s arrival luck replies) is
       (subst (λ (s : ServerState Site). AddsTurn before after s new arrival luck replies) was turn)
+
+  -- one step that leaves the table and counts itself keeps the invariant
+  pub kept_after_step : (entry : Entry Site BuildFault) → IsKept before old → after ≡ before ++ entry ∷ [] → Step site_meaning old entry new → new.table ≡ old.table → new.entries ≡ old.entries + 1 → IsKept after new
+  kept_after_step entry kept grows step table count =
+      kept_after (entry ∷ []) kept grows (step.may, tt) step.next (table ∙ kept.idle) count
+
+  -- what the step adds
+  pub adds_step : (entry : Entry Site BuildFault) → IsKept before old → after ≡ before ++ entry ∷ [] → Step site_meaning old entry new → Adds before after entry
+  adds_step entry kept grows step = record {
+    grows = grows;
+    may = subst (λ (s : ServerState Site). May site_meaning s entry) kept.state_is step.may;
+  }

@@ -1,7 +1,8 @@
 -- What a fault of a site says of the status that a run ends with.
-use Rattle.std.proofs.Common.{ℕ, ◌≡◌, ◌⊎◌, List, Option, Some, Err, inl, inr, sym, ◌∙◌, subst}
-use Rattle.rad_edge.specs.Telling.{Tells}
-use Rattle.rad_edge.specs.Files.{FilesTold, begun}
+use Rattle.std.proofs.Common.{ℕ, ◌≡◌, ◌⊎◌, List, Option, Some, None, Ok, Err, inl, inr, refl, ap, sym, ◌∙◌, subst}
+use Rattle.rad_edge.specs.declared.crew.Kit.{Kit}
+use Rattle.rad_edge.specs.Telling.{Tells, Rose}
+use Rattle.rad_edge.specs.Files.{File, FilesTold, begun}
 use Rattle.rad_core.specs.Policy.{IsBuilt}
 use Rattle.radiusd.specs.declared.fault.BuildFault.{BuildFault}
 use Rattle.radiusd.specs.declared.fault.BuildFault.TheVariants as fault
@@ -11,8 +12,11 @@ use Rattle.radiusd.specs.Site.{Site}
 use Rattle.radiusd.specs.Built.{built}
 use Rattle.radiusd.specs.Meaning.{site_meaning}
 use Rattle.radiusd.specs.Words.{folder_in}
-use Rattle.radiusd.specs.Statuses.{number_of, status_of, IsSiteFault, fault_line, Prints, IsRefused, FaultGives}
-use Rattle.radiusd.proofs.Telling.{Tells-weaker}
+use Rattle.radiusd.specs.Printing.{Prints}
+use Rattle.radiusd.specs.Course.{IsCourse, Unbuilt, Serving, fault_line, HasDeafWire}
+use Rattle.radiusd.specs.Statuses.{number_of, status_of, IsServing, IsSiteFault, IsRefused, FaultGives, SiteGives, NothingFailed, IsListed}
+use Rattle.radiusd.proofs.Telling.{Tells-same, Tells-weaker}
+use Rattle.radiusd.proofs.Printings.{Prints-weaker}
 
 -- the status of a fault of the configuration is that of a site's own fault alone
 IsSiteFault-by_status : (wrong : BuildFault) → status_of wrong ≡ status.Configuration → IsSiteFault wrong
@@ -36,7 +40,7 @@ pub IsRefused-by_fault : (words : List (List ℕ)) (folder : List ℕ) (wrong : 
     → folder_in words ≡ Some folder
     → Tells files_before files_now (λ before now. (now ≡ begun before) × IsBuilt site_meaning (record { files = (begun before).present; folder = folder }) (Err wrong))
     → (ended ≡ status_of wrong) ⊎ (ended ≡ status.NoMemory)
-    → (ended ≡ status.Configuration → Tells printed_before printed_now (Prints (fault_line wrong) faults_before faults_now))
+    → Tells printed_before printed_now (Prints (fault_line wrong) (Rose faults_before faults_now ⊎ (ended ≡ status.NoMemory)))
     → ended ≡ status.Configuration
     → IsRefused words files_before files_now printed_before printed_now faults_before faults_now
 IsRefused-by_fault words folder wrong files_before files_now printed_before printed_now faults_before faults_now ended words_are told which printed is =
@@ -51,8 +55,104 @@ IsRefused-by_fault words folder wrong files_before files_now printed_before prin
       site = site;
       is_built = Tells-weaker (λ (before now : FilesTold). built (record { files = (begun before).present; folder = folder }) ≡ Err wrong) files_before files_now
           (λ (before now : FilesTold). built-by_site_fault folder wrong before now site) told;
-      printed = printed is;
+      printed = Prints-weaker printed_before printed_now (fault_line wrong) (Rose faults_before faults_now ⊎ (ended ≡ status.NoMemory)) (Rose faults_before faults_now)
+          (λ excuse. elim excuse [ inl rose ↦ rose | inr none ↦ cc ]) printed;
     }
+
+-- the course of a site that has no generation, and of one that has
+pub unbuilt_course : (words : List (List ℕ)) (folder : List ℕ) (wrong : BuildFault) (files_before files_now : Option FilesTold)
+    → folder_in words ≡ Some folder
+    → Tells files_before files_now (λ before now. (now ≡ begun before) × IsBuilt site_meaning (record { files = (begun before).present; folder = folder }) (Err wrong))
+    → IsCourse words files_before files_now (Unbuilt wrong)
+unbuilt_course words folder wrong files_before files_now words_are told = (
+  folder,
+  words_are,
+  Tells-weaker (λ (before now : FilesTold). IsBuilt site_meaning (record { files = (begun before).present; folder = folder }) (Err wrong)) files_before files_now (λ before now t. t.1) told,
+)
+
+pub serving_course : (words : List (List ℕ)) (folder : List ℕ) (site : Site) (files_before files_now : Option FilesTold)
+    → folder_in words ≡ Some folder
+    → Tells files_before files_now (λ before now. (now ≡ begun before) × IsBuilt site_meaning (record { files = (begun before).present; folder = folder }) (Ok site))
+    → IsCourse words files_before files_now (Serving site)
+serving_course words folder site files_before files_now words_are told = (
+  folder,
+  words_are,
+  Tells-weaker (λ (before now : FilesTold). built (record { files = (begun before).present; folder = folder }) ≡ Ok site) files_before files_now (λ before now t. t.1) told,
+)
+
+-- a site is built to one thing
+one_built : (words : List (List ℕ)) (folder other : List ℕ) (wrong : BuildFault) (site : Site) (files : List File) → folder_in words ≡ Some folder → folder_in words ≡ Some other
+    → built (record { files = files; folder = folder }) ≡ Err wrong → built (record { files = files; folder = other }) ≡ Ok site → ⊥
+one_built words folder other wrong site files words_are also fails works =
+    let same : folder ≡ other = cc in
+    let both : Err wrong ≡ Ok site = sym fails ∙ ap (λ (f : List ℕ). built (record { files = files; folder = f })) same ∙ works in
+    cc
+
+-- the end of a run whose words are others
+pub SiteGives-by_words : (words : List (List ℕ)) (Fine Ends : Type 0) (files : Option FilesTold) → folder_in words ≡ None → SiteGives words Fine Ends files files
+SiteGives-by_words words Fine Ends files none =
+    Tells-same (λ (before now : FilesTold). (folder : List ℕ) (site : Site) → folder_in words ≡ Some folder → built (record { files = (begun before).present; folder = folder }) ≡ Ok site → Fine → Ends) files
+    (λ told folder site words_are means fine. cc)
+
+-- the end of a run whose site has no generation
+pub SiteGives-by_fault : (words : List (List ℕ)) (folder : List ℕ) (wrong : BuildFault) (files_before files_now : Option FilesTold) (Fine : Type 0) (ended : Status)
+    → folder_in words ≡ Some folder
+    → Tells files_before files_now (λ before now. (now ≡ begun before) × IsBuilt site_meaning (record { files = (begun before).present; folder = folder }) (Err wrong))
+    → (ended ≡ status_of wrong) ⊎ (ended ≡ status.NoMemory)
+    → (wrong ≡ fault.ReadFault → ¬ Fine)
+    → SiteGives words Fine ((ended ≡ status.Done) ⊎ (ended ≡ status.NoMemory)) files_before files_now
+SiteGives-by_fault words folder wrong files_before files_now Fine ended words_are told which not_read =
+    Tells-weaker (λ (before now : FilesTold). (other : List ℕ) (site : Site) → folder_in words ≡ Some other → built (record { files = (begun before).present; folder = other }) ≡ Ok site → Fine → (ended ≡ status.Done) ⊎ (ended ≡ status.NoMemory)) files_before files_now
+    (λ (before now : FilesTold) t other site also means fine. elim t.1 [
+      | inl fails ↦ absurd (one_built words folder other wrong site (begun before).present words_are also fails means)
+      | inr (inl none) ↦ elim which [
+        | inl of_fault ↦ inr (of_fault ∙ ap status_of none)
+        | inr out ↦ inr out
+      ]
+      | inr (inr failed) ↦ absurd (not_read failed fine)
+    ]) told
+
+-- a run that served, where nothing failed
+module _ {W S K U G : Type 0} (failures : W → ℕ) (files_before files_now crew_before crew_now sink_before sink_now : ℕ) (kits : List (Kit W S K U G)) where
+  pub serving_ends : (ended : Status) → IsServing ended
+      → (ended ≡ status.SocketFault → Rose crew_before crew_now ⊎ HasDeafWire failures kits)
+      → (ended ≡ status.PrintFault → Rose sink_before sink_now)
+      → NothingFailed failures files_before files_now crew_before crew_now sink_before sink_now kits
+      → (ended ≡ status.Done) ⊎ (ended ≡ status.NoMemory)
+  serving_ends status.Done serving socket print fine = inl refl
+  serving_ends status.Words serving socket print fine = absurd serving
+  serving_ends status.Configuration serving socket print fine = absurd serving
+  serving_ends status.ReadFault serving socket print fine = absurd serving
+  serving_ends status.SocketFault serving socket print fine = elim (socket refl) [ inl rose ↦ absurd (fine.crew rose) | inr deaf ↦ absurd (fine.wires deaf) ]
+  serving_ends status.PrintFault serving socket print fine = absurd (fine.sink (print refl))
+  serving_ends status.NoMemory serving socket print fine = inr refl
+
+-- the end of a run that served
+pub SiteGives-serving : (words : List (List ℕ)) (Fine Ends : Type 0) (files_before files_now : Option FilesTold) (R : FilesTold → FilesTold → Type 0) → Tells files_before files_now R → (Fine → Ends) → SiteGives words Fine Ends files_before files_now
+SiteGives-serving words Fine Ends files_before files_now R told ends =
+    Tells-weaker (λ (before now : FilesTold). (folder : List ℕ) (site : Site) → folder_in words ≡ Some folder → built (record { files = (begun before).present; folder = folder }) ≡ Ok site → Fine → Ends) files_before files_now
+    (λ (before now : FilesTold) t folder site words_are means fine. ends fine) told
+
+pub SiteGives-number : (words : List (List ℕ)) (files_before files_now : Option FilesTold) (Fine : Type 0) (ended : Status) (number : ℕ)
+    → number ≡ number_of ended
+    → SiteGives words Fine ((ended ≡ status.Done) ⊎ (ended ≡ status.NoMemory)) files_before files_now
+    → SiteGives words Fine ((number ≡ 0) ⊎ (number ≡ 8)) files_before files_now
+SiteGives-number words files_before files_now Fine ended number is =
+    Tells-weaker (λ (before now : FilesTold). (folder : List ℕ) (site : Site) → folder_in words ≡ Some folder → built (record { files = (begun before).present; folder = folder }) ≡ Ok site → Fine → (number ≡ 0) ⊎ (number ≡ 8)) files_before files_now
+    (λ (before now : FilesTold) gives folder site words_are means fine. elim (gives folder site words_are means fine) [
+      | inl done ↦ inl (is ∙ ap number_of done)
+      | inr none ↦ inr (is ∙ ap number_of none)
+    ])
+
+-- each status is one of the list
+pub listed : (ended : Status) → IsListed (number_of ended)
+listed status.Done = inl refl
+listed status.Words = inr (inl refl)
+listed status.Configuration = inr (inr (inl refl))
+listed status.ReadFault = inr (inr (inr (inl refl)))
+listed status.SocketFault = inr (inr (inr (inr (inl refl))))
+listed status.PrintFault = inr (inr (inr (inr (inr (inl refl)))))
+listed status.NoMemory = inr (inr (inr (inr (inr (inr refl)))))
 
 -- an end of a run as the number of its status
 pub FaultGives-number : (words : List (List ℕ)) (files_before files_now : Option FilesTold) (ended : Status) (number : ℕ)

@@ -1,14 +1,18 @@
 -- What devices tell over several calls.
 use Rattle.std.proofs.Common.{◌≡◌, ◌++◌, List, [], ◌∷◌, map, Option, Some, None, refl, ap, sym, ◌∙◌, append_assoc}
 use Rattle.std.specs.List.{AllByRecursion}
+use Rattle.std.specs.Option.{option_map}
 use Rattle.std.proofs.lemmas.List.{map-append}
 use Rattle.rad_edge.specs.declared.wire.Heard.{Heard}
 use Rattle.rad_edge.specs.declared.wire.Heard.TheVariants as heard
 use Rattle.rad_edge.specs.Telling.{Tells}
 use Rattle.rad_edge.specs.Wire.{WireTold}
-use Rattle.rad_core.specs.declared.arrival.Arrived.{Arrived}
-use Rattle.rad_core.specs.Worker.{Answer}
-use Rattle.radiusd.specs.Told.{datagram_of, datagrams, answer_of, Hears, Sends, GrowsBy, Datagram}
+use Rattle.rad_core.specs.Worker.{Answer, Placed, asked}
+use Rattle.rad_core.proofs.Histories.{asked-append}
+use Rattle.radiusd.specs.declared.fault.BuildFault.{BuildFault}
+use Rattle.radiusd.specs.Site.{Site}
+use Rattle.radiusd.specs.Told.{datagram_of, events, taken, answer_of, Hears, Sends, GrowsBy, Datagram}
+use Rattle.radiusd.specs.Leaving.{HearsLast}
 
 -- from one call to the next
 pub Tells-trans : {T : Type 0} {R S : T → T → Type 0} (Q : T → T → Type 0) (a b c : Option T) → ((x y z : T) → R x y → S y z → Q x z) → Tells a b R → Tells b c S → Tells a c Q
@@ -26,22 +30,32 @@ Tells-weaker S a None weaker tells = tt
 Tells-weaker S None (Some y) weaker tells = absurd tells
 Tells-weaker S (Some x) (Some y) weaker tells = weaker x y tells
 
-pub datagrams-append : (xs ys : List Heard) → datagrams (xs ++ ys) ≡ datagrams xs ++ datagrams ys
-datagrams-append [] ys = refl
-datagrams-append (heard.Datagram octets from ∷ xs) ys = ap (λ (more : List Datagram). record { from = from; octets = octets } ∷ more) (datagrams-append xs ys)
-datagrams-append (heard.Quiet ∷ xs) ys = datagrams-append xs ys
-datagrams-append (heard.Ended ∷ xs) ys = datagrams-append xs ys
-datagrams-append (heard.Failed ∷ xs) ys = datagrams-append xs ys
+pub events-append : (xs ys : List Heard) → events (xs ++ ys) ≡ events xs ++ events ys
+events-append [] ys = refl
+events-append (heard.Datagram octets from ∷ xs) ys = ap (λ (more : List (Option Datagram)). Some (record { from = from; octets = octets }) ∷ more) (events-append xs ys)
+events-append (heard.Quiet ∷ xs) ys = ap (λ (more : List (Option Datagram)). None ∷ more) (events-append xs ys)
+events-append (heard.Ended ∷ xs) ys = events-append xs ys
+events-append (heard.Failed ∷ xs) ys = events-append xs ys
+
+taken-append : (xs ys : List (Placed Site BuildFault)) → taken (xs ++ ys) ≡ taken xs ++ taken ys
+taken-append xs ys = ap (map (option_map datagram_of)) (asked-append xs ys) ∙ map-append (option_map datagram_of) (asked xs) (asked ys)
 
 grown : {X : Type 0} (before mid now xs ys : List X) → mid ≡ before ++ xs → now ≡ mid ++ ys → now ≡ before ++ (xs ++ ys)
 grown before mid now xs ys first second = second ∙ ap (λ l. l ++ ys) first ∙ append_assoc before xs ys
 
-pub Hears-join : (arrivals bs : List Arrived) (x y z : WireTold) → Hears arrivals x y → Hears bs y z → Hears (arrivals ++ bs) x z
-Hears-join arrivals bs x y z first second = (
+pub Hears-join : (mine more : List (Placed Site BuildFault)) (x y z : WireTold) → Hears mine x y → Hears more y z → Hears (mine ++ more) x z
+Hears-join mine more x y z first second = (
   first.0 ++ second.0,
   grown x.heard y.heard z.heard first.0 second.0 first.1 second.1,
-  datagrams-append first.0 second.0 ∙ ap (λ l. l ++ datagrams second.0) first.2
-      ∙ ap (λ l. map datagram_of arrivals ++ l) second.2 ∙ sym (map-append datagram_of arrivals bs),
+  events-append first.0 second.0 ∙ ap (λ l. l ++ events second.0) first.2
+      ∙ ap (λ l. taken mine ++ l) second.2 ∙ sym (taken-append mine more),
+)
+
+pub HearsLast-join : (answer : Heard) (mine : List (Placed Site BuildFault)) (x y z : WireTold) → Hears mine x y → HearsLast answer y z → HearsLast answer x z
+HearsLast-join answer mine x y z first second = (
+  first.0 ++ second.0,
+  grown x.heard y.heard z.heard first.0 (second.0 ++ answer ∷ []) first.1 second.1
+      ∙ ap (λ l. x.heard ++ l) (sym (append_assoc first.0 second.0 (answer ∷ []))),
 )
 
 pub Sends-join : (arrivals bs : List Answer) (x y z : WireTold) → Sends arrivals x y → Sends bs y z → Sends (arrivals ++ bs) x z

@@ -27,6 +27,7 @@ module _ {W S K U G : Type 0} (tells : KitTells W K U) (worker : ℕ) (listen : 
     words = [];
     words_in_order = Tells-same (GrowsBy []) (tells.luck kit.luck) (λ x. sym (append-nil x));
     outcomes = refl;
+    shelf = refl;
   }
 
   -- one run after another
@@ -37,8 +38,7 @@ module _ {W S K U G : Type 0} (tells : KitTells W K U) (worker : ℕ) (listen : 
     own = subst (AllByRecursion (IsAt worker a.listener listen)) (sym (served-append xs ys))
         (All-append (IsAt worker a.listener listen) (served xs) (served ys) first.own
         (subst (λ n. AllByRecursion (IsAt worker n listen) (served ys)) first.listener second.own));
-    served_in_order = subst (λ (arrivals : List Arrived). Tells (tells.wire a.wire) (tells.wire c.wire) (Hears arrivals)) (sym (served-append xs ys))
-        (Tells-trans (Hears (served xs ++ served ys)) (tells.wire a.wire) (tells.wire b.wire) (tells.wire c.wire) (Hears-join (served xs) (served ys)) first.served_in_order second.served_in_order);
+    served_in_order = Tells-trans (Hears (xs ++ ys)) (tells.wire a.wire) (tells.wire b.wire) (tells.wire c.wire) (Hears-join xs ys) first.served_in_order second.served_in_order;
     replies_in_order = subst (λ (rs : List Answer). Tells (tells.wire a.wire) (tells.wire c.wire) (Sends rs)) (sym (answered-append xs ys first.closed))
         (Tells-trans (Sends (answered xs ++ answered ys)) (tells.wire a.wire) (tells.wire b.wire) (tells.wire c.wire) (Sends-join (answered xs) (answered ys)) first.replies_in_order second.replies_in_order);
     moments_in_order = subst (λ (ms : List ℕ). Tells (tells.clock a.clock) (tells.clock c.clock) (GrowsBy ms)) (sym (ap (map (λ (r : Arrived). r.now)) (served-append xs ys) ∙ map-append (λ (r : Arrived). r.now) (served xs) (served ys)))
@@ -46,4 +46,5 @@ module _ {W S K U G : Type 0} (tells : KitTells W K U) (worker : ℕ) (listen : 
     words = first.words ++ second.words;
     words_in_order = Tells-trans (GrowsBy (first.words ++ second.words)) (tells.luck a.luck) (tells.luck b.luck) (tells.luck c.luck) (GrowsBy-join first.words second.words) first.words_in_order second.words_in_order;
     outcomes = HaveOutcomes-append site_meaning first.words second.words xs ys first.closed first.outcomes second.outcomes;
+    shelf = second.shelf ∙ first.shelf;
   }

@@ -15,9 +15,13 @@ pub mod History
 pub mod HubSeen
 pub mod Turn
 pub mod Told
+pub mod Leaving
 pub mod Serving
 pub mod Words
+pub mod Counting
 pub mod Lines
+pub mod Printing
+pub mod Course
 pub mod Headline
 pub mod Installing
 pub mod Statuses

@@ -2,6 +2,7 @@
 use Rattle.std.specs.Prelude.{ℕ, ◌/◌, ◌%◌, ◌++◌, List, [], ◌∷◌, codes}
 use Rattle.std.specs.Fmt.{decimal}
 use Rattle.rad_edge.specs.declared.listen.Peer.{Peer}
+use Rattle.radiusd.specs.declared.counts.Counts.{Counts}
 
 -- An address in four decimal parts.
 abbrev pub dotted : ℕ → List ℕ
@@ -14,6 +15,14 @@ listening_line server at = codes "listening " ++ server ++ codes " " ++ dotted a
     ++ codes " auth workers 1" ++ 10 ∷ []
 
 -- `requests N replies N reloads N refused N`
-abbrev pub counts_line : ℕ → ℕ → ℕ → ℕ → List ℕ
-counts_line requests replies reloads refused = codes "requests " ++ decimal requests ++ codes " replies " ++ decimal replies
-    ++ codes " reloads " ++ decimal reloads ++ codes " refused " ++ decimal refused ++ 10 ∷ []
+abbrev pub counts_line : Counts → List ℕ
+counts_line counts = codes "requests " ++ decimal counts.requests ++ codes " replies " ++ decimal counts.replies
+    ++ codes " reloads " ++ decimal counts.reloads ++ codes " refused " ++ decimal counts.refused ++ 10 ∷ []
+
+-- `socket fault`
+abbrev pub socket_fault_line : List ℕ
+socket_fault_line = codes "socket fault" ++ 10 ∷ []
+
+-- The usage line of words that are refused.
+abbrev pub usage_line : List ℕ
+usage_line = codes "usage: radiusd -s -d DIR" ++ 10 ∷ []

@@ -1,5 +1,6 @@
 -- What a run's exit status says of its words and of its site. This project's own, after FreeRADIUS' radiusd(8).
-use Rattle.std.specs.Prelude.{ℕ, ◌≡◌, ◌⊎◌, ◌++◌, List, [], ◌∷◌, length, take, Option, Some, Err}
+use Rattle.std.specs.Prelude.{ℕ, ◌≡◌, ◌⊎◌, List, Option, Some, Ok, Err}
+use Rattle.rad_edge.specs.declared.crew.Kit.{Kit}
 use Rattle.rad_edge.specs.Telling.{Tells, Rose}
 use Rattle.rad_edge.specs.Files.{FilesTold, begun}
 use Rattle.radiusd.specs.declared.fault.BuildFault.{BuildFault}
@@ -7,7 +8,9 @@ use Rattle.radiusd.specs.declared.fault.BuildFault.TheVariants as fault
 use Rattle.radiusd.specs.declared.status.Status.{Status}
 use Rattle.radiusd.specs.declared.status.Status.TheVariants as status
 use Rattle.radiusd.specs.Built.{built}
-use Rattle.radiusd.specs.FaultText.{fault_text}
+use Rattle.radiusd.specs.Course.{fault_line, HasDeafWire}
+use Rattle.radiusd.specs.Printing.{Prints}
+use Rattle.radiusd.specs.Site.{Site}
 use Rattle.radiusd.specs.Words.{folder_in}
 
 -- The exit status of the program.
@@ -44,16 +47,6 @@ IsSiteFault (fault.Tree wrong) = Unit {0}
 IsSiteFault fault.ReadFault = ⊥
 IsSiteFault fault.NoMemory = ⊥
 
--- The line of a fault: its text, with place and reason, and a newline.
-unfoldable pub fault_line : BuildFault → List ℕ
-fault_line wrong = fault_text wrong ++ 10 ∷ []
-
--- The line was printed whole, or after a fault of the sink a prefix of it.
-abbrev pub Prints : List ℕ → ℕ → ℕ → List ℕ → List ℕ → Type 0
-Prints line faults_before faults_now before now =
-    (written : ℕ) × (now ≡ before ++ take written line)
-    × ((written ≡ length line) ⊎ Rose faults_before faults_now)
-
 -- The run was refused for a fault of its site: the words name a folder, the next map of the files is built there to
 -- this fault, and the fault's line was printed. Nothing else was printed.
 pub record IsRefused (words : List (List ℕ)) (files_before files_now : Option FilesTold) (printed_before printed_now : Option (List ℕ)) (faults_before faults_now : ℕ) : Type 0 where
@@ -62,10 +55,28 @@ pub record IsRefused (words : List (List ℕ)) (files_before files_now : Option 
   pub words_are : folder_in words ≡ Some folder
   pub site : IsSiteFault fault
   pub is_built : Tells files_before files_now (λ before now. built (record { files = (begun before).present; folder = folder }) ≡ Err fault)
-  pub printed : Tells printed_before printed_now (Prints (fault_line fault) faults_before faults_now)
+  pub printed : Tells printed_before printed_now (Prints (fault_line fault) (Rose faults_before faults_now))
 
 -- Where the words name a folder, and the next map of the files is built there to a fault, the run ends so.
 abbrev pub FaultGives : List (List ℕ) → Type 0 → Option FilesTold → Option FilesTold → Type 0
 FaultGives words Ends files_before files_now = Tells files_before files_now (λ before now.
     (folder : List ℕ) (wrong : BuildFault) → folder_in words ≡ Some folder
     → built (record { files = (begun before).present; folder = folder }) ≡ Err wrong → Ends)
+
+-- The exit statuses that there are.
+abbrev pub IsListed : ℕ → Type 0
+IsListed number = (number ≡ 0) ⊎ ((number ≡ 1) ⊎ ((number ≡ 2) ⊎ ((number ≡ 3) ⊎ ((number ≡ 4) ⊎ ((number ≡ 6) ⊎ (number ≡ 8))))))
+
+-- What a run's devices have had by its end: no count of faults rose, and no kit's wire failed 100 times in a row.
+pub record NothingFailed {W S K U G : Type 0} (failures : W → ℕ) (files_before files_now crew_before crew_now sink_before sink_now : ℕ) (kits : List (Kit W S K U G)) : Type 0 where
+  pub files : ¬ Rose files_before files_now
+  pub crew : ¬ Rose crew_before crew_now
+  pub sink : ¬ Rose sink_before sink_now
+  pub wires : ¬ HasDeafWire failures kits
+
+-- Where the words name a folder, and the next map of the files is built there to a site, the run ends so if nothing
+-- failed.
+abbrev pub SiteGives : List (List ℕ) → Type 0 → Type 0 → Option FilesTold → Option FilesTold → Type 0
+SiteGives words Fine Ends files_before files_now = Tells files_before files_now (λ before now.
+    (folder : List ℕ) (site : Site) → folder_in words ≡ Some folder
+    → built (record { files = (begun before).present; folder = folder }) ≡ Ok site → Fine → Ends)

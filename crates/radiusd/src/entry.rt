@@ -1,6 +1,6 @@
 use crate::fault::BuildFault;
 use crate::generation::Generation;
-use rad_core::{Arrived, Ending, Installed, StartAnswer};
+use rad_core::{Arrived, Ending, Installed, Seen, StartAnswer};
 use rad_edge::Listen;
 use std::sync::Arc;
 
@@ -12,4 +12,8 @@ pub(crate) enum StoredEntry {
     Finish(u32, u64, Ending),
     /// The worker, a share of the generation, the listeners and the answer.
     Install(u32, Arc<Generation>, Vec<Listen>, Installed<BuildFault>),
+    /// The worker, and what it saw.
+    Look(u32, Seen),
+    /// The worker.
+    Stop(u32),
 }

@@ -1,13 +1,9 @@
-ghost use Rattle.std.specs.Prelude.{◌≡◌};
-ghost use Rattle.radiusd.specs.Installing.{is_present_by};
-
-use crate::counts::{Counts, counts_of};
+use crate::counts::{Counts, counts_of, is_present};
 use crate::entry::StoredEntry;
-use crate::fault::BuildFault;
 use crate::generation::Generation;
 use crate::room::Room;
 use crate::turn::{Reply, take_turn};
-use rad_core::{Arrival, Core, Installed};
+use rad_core::{Arrival, Core, Seen};
 use rad_edge::{Gate, Listen, NoMemory, Octets, Shelf};
 use std::alloc::Global;
 use std::marker::Model;
@@ -44,14 +40,16 @@ impl<L> Model for Hub<L> {
 }
 
 impl<L: Shelf> Hub<L> {
-    ghost use Rattle.std.specs.Prelude.{◌≡◌, ◌≤◌, ◌<◌, ◌^◌, [], length, IfOk, OnOk, OnErr, IsSome, IsUtf8};
+    ghost use Rattle.std.specs.Prelude.{◌≡◌, ◌≤◌, ◌<◌, ◌^◌, [], length, drop, IfOk, OnOk, OnErr, IsSome, IsUtf8};
     ghost use Rattle.rad_edge.specs.declared.listen.ListenKind.TheVariants.{Auth};
     ghost use Rattle.rad_core.specs.State.{opening};
+    ghost use Rattle.rad_core.specs.Entry.{Look, Stop};
     ghost use Rattle.rad_core.specs.Step.{IsLegal};
     ghost use Rattle.rad_core.specs.Answers.{arrived_of};
     ghost use Rattle.radiusd.specs.Meaning.{site_meaning};
     ghost use Rattle.std.specs.Arc.{arc_value};
-    ghost use Rattle.radiusd.specs.History.{state_after, Installs};
+    ghost use Rattle.radiusd.specs.Counting.{counts_of};
+    ghost use Rattle.radiusd.specs.History.{state_after, Installs, Adds};
     ghost use Rattle.radiusd.specs.Turn.{AddsTurn, answers_of, FitsAnswer};
 
     /// A hub on which nothing has happened, with the session log at a path, which is UTF-8.
@@ -110,6 +108,7 @@ impl<L: Shelf> Hub<L> {
             (answers_of (arrived_of arrival.entry.now) result buffer.new) }
         ensures fits { FitsAnswer result }
         ensures buffer { length buffer.new ≡ 4096 }
+        ensures shelf { shelf.new ≡ shelf.old }
         ensures log { self.new.log ≡ self.old.log }
     {
         take_turn(
@@ -124,6 +123,7 @@ impl<L: Shelf> Hub<L> {
             buffer,
         )
     }
+
     /// Installs a generation of worker 0, as one entry of the history. Whether it is the present one now.
     pub(crate) fn install(
         &mut self,
@@ -143,7 +143,30 @@ impl<L: Shelf> Hub<L> {
         Ok(installed)
     }
 
-    /// Whether the history is legal, which it is.
+    /// A worker looks at the server, as one entry of the history. Takes no memory.
+    pub(crate) fn look(&mut self, worker: u32) -> Seen
+        requires few { length self.old.history < 2 ^ 62 }
+        requires room { 1 ≤ self.old.room }
+        ensures added { Adds self.old.history self.new.history (Look worker result) }
+        ensures log { self.new.log ≡ self.old.log }
+    {
+        let seen = self.core.look(worker);
+        self.entries.push_reserved(StoredEntry::Look(worker, seen));
+        seen
+    }
+
+    /// A worker stops the server, as one entry of the history. Takes no memory.
+    pub(crate) fn stop(&mut self, worker: u32)
+        requires few { length self.old.history < 2 ^ 62 }
+        requires room { 1 ≤ self.old.room }
+        ensures added { Adds self.old.history self.new.history (Stop worker) }
+        ensures log { self.new.log ≡ self.old.log }
+    {
+        self.core.stop(worker);
+        self.entries.push_reserved(StoredEntry::Stop(worker));
+    }
+
+    /// How many entries the history has. It is legal.
     pub(crate) fn length(&self) -> usize
         ensures length { result ≡ length self.now.history }
         ensures legal { IsLegal site_meaning opening self.now.history }
@@ -152,19 +175,10 @@ impl<L: Shelf> Hub<L> {
     }
 
     /// The counts of the entries from a place on, none past the end.
-    pub(crate) fn counts_from(&self, from: usize) -> Counts {
+    pub(crate) fn counts_from(&self, from: usize) -> Counts
+        ensures { result ≡ counts_of (drop from self.now.history) }
+    {
         let from = from.min(self.entries.len());
         counts_of(self.entries.split_at(from).1)
-    }
-}
-
-/// Whether a load is the present generation now.
-fn is_present(answer: &Installed<BuildFault>) -> bool
-    ensures { result ≡ is_present_by answer.now }
-{
-    match answer {
-        Installed::Generation(_) => true,
-        Installed::Refused(_) => false,
-        Installed::ListenerGone(_) => false,
     }
 }

@@ -1,6 +1,5 @@
-ghost use Rattle.std.specs.Prelude.{◌≡◌, [], ◌∷◌, IfOk, OnErr};
-ghost use Rattle.rad_edge.specs.declared.listen.ListenKind.TheVariants.{Auth};
-ghost use Rattle.radiusd.specs.History.{Extends, IsInstalled};
+ghost use Rattle.std.specs.Prelude.{◌≡◌, IfOk, OnErr};
+ghost use Rattle.radiusd.specs.History.{listener_of, TriesInstall, IsInstalled};
 
 use crate::generation::Generation;
 use crate::hub::Hub;
@@ -10,7 +9,7 @@ use std::sync::Arc;
 
 /// The listener of a generation.
 fn listener_of(alloc: Global, generation: &Generation) -> Result<Listen, NoMemory>
-    ensures { IfOk result (λ listen. listen ≡ record { server = generation.now.server; kind = Auth; at = generation.now.at }) }
+    ensures { IfOk result (λ listen. listen ≡ listener_of generation.now) }
 {
     Ok(Listen {
         server: Octets::of(alloc, generation.server.as_slice())?,
@@ -27,7 +26,7 @@ pub(crate) fn install<L: Shelf>(
     generation: Generation,
 ) -> Result<Listen, NoMemory>
     ensures installed { IfOk result (IsInstalled hub.old.history hub.new.history generation) }
-    ensures err { OnErr result (Extends hub.old.history hub.new.history) }
+    ensures err { OnErr result (TriesInstall hub.old.history hub.new.history generation) }
     ensures log { hub.new.log ≡ hub.old.log }
 {
     let listen = listener_of(alloc, &generation)?;

@@ -47,16 +47,16 @@ pub(crate) fn listening_line(alloc: Global, server: &[u8], at: Peer) -> Result<O
 
 /// `requests N replies N reloads N refused N` and a newline.
 pub(crate) fn counts_line(alloc: Global, counts: Counts) -> Result<Octets, NoMemory>
-    ensures { IfOk result (λ line. line ≡ counts_line counts.requests counts.replies 0 0) }
+    ensures { IfOk result (λ line. line ≡ counts_line counts) }
 {
     let mut text = Vec::from_slice(alloc, b"requests ")?;
     push_number(alloc, &mut text, counts.requests)?;
     text.extend_from_slice(b" replies ")?;
     push_number(alloc, &mut text, counts.replies)?;
     text.extend_from_slice(b" reloads ")?;
-    push_number(alloc, &mut text, 0)?;
+    push_number(alloc, &mut text, counts.reloads)?;
     text.extend_from_slice(b" refused ")?;
-    push_number(alloc, &mut text, 0)?;
+    push_number(alloc, &mut text, counts.refused)?;
     text.push(10)?;
     Ok(Octets::from_vec(text))
 }

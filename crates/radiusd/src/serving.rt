@@ -1,22 +1,25 @@
-ghost use Rattle.std.specs.Prelude.{◌≡◌, ◌≤◌, ◌<◌, ◌^◌, length, IsSome, IsTrue};
+ghost use Rattle.std.specs.Prelude.{◌≡◌, ◌≤◌, ◌<◌, ◌^◌, length, IsSome, Some};
 ghost use Rattle.rad_edge.specs.declared.listen.ListenKind.TheVariants.{Auth};
 ghost use Rattle.radiusd.specs.History.{state_after};
-ghost use Rattle.radiusd.specs.Serving.{Serves, GoesOn};
+ghost use Rattle.radiusd.specs.Serving.{Serves, GoesOn, left_of, IsCounted};
 
 use crate::hub::Hub;
+use crate::left::Left;
 use crate::room::Room;
 use rad_core::Arrival;
 use rad_edge::{Clock, Gate, Got, Kit, Listen, Luck, Peer, Point, Shelf, Wire};
 use std::alloc::Global;
 use std::sync::Wait;
 
-/// How the serving of a kit ended.
+/// After so many failures of its wire in a row a worker is deaf.
+const DEAF: u64 = 100;
+
+/// What became of a worker in one pass.
 #[derive(Clone, Copy, Debug, PartialEq, Eq)]
-pub(crate) enum Left {
-    /// Its wire ended.
-    Ended,
-    /// There was no room for what the next datagram adds to the history.
-    NoMemory,
+pub(crate) enum Passed {
+    /// It serves on. So many of its wire's last asks failed.
+    On(u64),
+    Leaving(Left),
 }
 
 /// Serves one datagram that the kit's wire gave: its arrival is taken through the core, and its reply, if there is
@@ -36,8 +39,8 @@ fn serve_datagram<L: Shelf, W: Wire, S: Shelf, K: Clock, U: Luck, G: Gate>(
     requires auth { listen.now.kind ≡ Auth }
     requires short { length octets.now ≤ 4096 }
     requires named { room.server ≡ listen.now.server }
-    ensures serves { Serves (record { wire = W.told; clock = K.told; luck = U.told }) worker listen.now
-        hub.old.history hub.new.history kit.old kit.new from octets.now }
+    ensures serves { Serves (record { wire = W.told; clock = K.told; luck = U.told; failures = W.failures_in_a_row; has_ended = W.has_ended })
+        worker listen.now hub.old.history hub.new.history kit.old kit.new from octets.now }
     ensures log { hub.new.log ≡ hub.old.log }
 {
     let arrival = Arrival {
@@ -66,42 +69,60 @@ fn serve_datagram<L: Shelf, W: Wire, S: Shelf, K: Clock, U: Luck, G: Gate>(
     }
 }
 
-/// Asks the kit's wire once and serves what it gives. Room for what that adds is made before the wire is asked.
-/// Nothing where the serving goes on.
+/// Asks the kit's wire once and serves what it gives. Room for what that adds is made before the wire is asked. Where
+/// nothing came the worker looks, and leaves if a stop came; where the wire failed 100 times in a row it stops the
+/// server and leaves.
 fn pass<L: Shelf, W: Wire, S: Shelf, K: Clock, U: Luck, G: Gate>(
     alloc: Global,
     hub: &mut Hub<L>,
     worker: u32,
     kit: &mut Kit<W, S, K, U, G>,
     listen: &Listen,
-) -> Option<Left>
+    failures: u64,
+) -> Passed
     requires installed { IsSome (state_after hub.old.history).present }
     requires auth { listen.now.kind ≡ Auth }
-    ensures goes_on { GoesOn (record { wire = W.told; clock = K.told; luck = U.told }) worker listen.now
-        hub.old.history hub.new.history kit.old kit.new }
-    ensures ended { result ≡ Some Left.Ended → IsTrue (W.has_ended kit.new.wire) }
+    requires counted { failures ≡ W.failures_in_a_row kit.old.wire }
+    requires few { failures < 100 }
+    ensures goes_on { GoesOn (record { wire = W.told; clock = K.told; luck = U.told; failures = W.failures_in_a_row; has_ended = W.has_ended })
+        worker listen.now (left_of result) hub.old.history hub.new.history kit.old kit.new }
+    ensures counted { IsCounted result (W.failures_in_a_row kit.new.wire) }
     ensures log { hub.new.log ≡ hub.old.log }
 {
     if hub.reserve().is_err() {
-        return Some(Left::NoMemory);
+        return Passed::Leaving(Left::NoMemory);
     }
     let Ok(room) = Room::take(alloc, listen.server.as_slice()) else {
-        return Some(Left::NoMemory);
+        return Passed::Leaving(Left::NoMemory);
     };
     let mut buffer = [0; 4096];
     match kit.wire.recv(&mut buffer) {
         Got::Datagram(count, from) => {
             let (octets, _) = buffer.split_at(count);
             serve_datagram(hub, worker, kit, listen, room, from, octets);
-            None
+            Passed::On(0)
         }
-        Got::Quiet => None,
-        Got::Failed => None,
-        Got::Ended => Some(Left::Ended),
+        Got::Quiet => {
+            let seen = hub.look(worker);
+            if seen.stopped {
+                Passed::Leaving(Left::Stopped)
+            } else {
+                Passed::On(0)
+            }
+        }
+        Got::Failed => {
+            if failures + 1 < DEAF {
+                return Passed::On(failures + 1);
+            }
+            hub.stop(worker);
+            Passed::Leaving(Left::Deaf)
+        }
+        Got::Ended => Passed::Leaving(Left::Ended),
     }
 }
 
-/// Serves a kit until its wire has ended.
+/// Serves a kit until its worker leaves: its wire has ended, a stop came, the wire failed 100 times in a row, or memory
+/// ran out.
 pub(crate) fn serve<R: Wait, L: Shelf, W: Wire, S: Shelf, K: Clock, U: Luck, G: Gate>(
     rt: &R,
     alloc: Global,
@@ -112,14 +133,16 @@ pub(crate) fn serve<R: Wait, L: Shelf, W: Wire, S: Shelf, K: Clock, U: Luck, G: 
 ) -> Left
     requires installed { IsSome (state_after hub.old.history).present }
     requires auth { listen.now.kind ≡ Auth }
-    ensures goes_on { GoesOn (record { wire = W.told; clock = K.told; luck = U.told }) worker listen.now
-        hub.old.history hub.new.history kit.old kit.new }
-    ensures ended { result ≡ Left.Ended → IsTrue (W.has_ended kit.new.wire) }
+    requires fresh { W.failures_in_a_row kit.old.wire ≡ 0 }
+    ensures goes_on { GoesOn (record { wire = W.told; clock = K.told; luck = U.told; failures = W.failures_in_a_row; has_ended = W.has_ended })
+        worker listen.now (Some result) hub.old.history hub.new.history kit.old kit.new }
     ensures log { hub.new.log ≡ hub.old.log }
 {
+    let mut failures = 0;
     for _ in rt.forever() {
-        if let Some(left) = pass(alloc, hub, worker, kit, listen) {
-            return left;
+        match pass(alloc, hub, worker, kit, listen, failures) {
+            Passed::On(count) => failures = count,
+            Passed::Leaving(left) => return left,
         }
     }
     unreachable!()

@@ -1,12 +1,21 @@
-ghost use Rattle.std.specs.Prelude.{◌≡◌, [], IfErr};
+ghost use Rattle.std.specs.Prelude.{◌≡◌, ◌≤◌, ◌⊎◌, ◌++◌, [], drop, Some, IfErr, OnOk, IsTrue};
+ghost use Rattle.std.specs.List.{AllByRecursion};
+ghost use Rattle.rad_edge.specs.Telling.{Tells, Rose};
+ghost use Rattle.radiusd.specs.Course.{Serving, IsExcused, HasDeafWire, closing_lines};
 ghost use Rattle.radiusd.specs.Headline.{Headline};
-ghost use Rattle.radiusd.specs.Statuses.{IsServing};
+ghost use Rattle.radiusd.specs.History.{state_after};
+ghost use Rattle.radiusd.specs.Leaving.{IsAtEnd};
+ghost use Rattle.radiusd.specs.Lines.{listening_line, socket_fault_line};
+ghost use Rattle.radiusd.specs.Printing.{Prints, PrintsWhole, IsCutShort};
+ghost use Rattle.radiusd.specs.Statuses.{IsServing, number_of};
 
 use crate::generation::Generation;
 use crate::hub::Hub;
 use crate::install::install;
+use crate::left::Left;
 use crate::lines::{counts_line, listening_line};
-use crate::serving::{Left, serve};
+use crate::printing::say;
+use crate::serving::serve;
 use crate::status::Status;
 use rad_edge::{Clock, Crew, Gate, Kit, KitFault, Listen, Luck, Octets, Shelf, Sink, Wire};
 use std::alloc::Global;
@@ -15,27 +24,56 @@ use std::sync::Wait;
 /// The worker that serves the one listener.
 const WORKER: u32 = 0;
 
-/// Prints a line.
-fn say<O: Sink>(out: &mut O, line: &Octets) -> Result<(), Status>
-    ensures { IfErr result IsServing }
-{
-    match out.write(line.as_slice()) {
-        Ok(()) => Ok(()),
-        Err(_) => Err(Status::PrintFault),
-    }
-}
+/// What is printed where a socket couldn't be had, or a worker was deaf.
+const SOCKET_FAULT: &[u8] = b"socket fault\n";
 
 /// Prints the line of a listener.
 fn say_listening<O: Sink>(alloc: Global, out: &mut O, listen: &Listen) -> Result<(), Status>
-    ensures { IfErr result IsServing }
+    ensures ok { OnOk result (Tells (O.told out.old) (O.told out.new)
+        (PrintsWhole (listening_line listen.now.server listen.now.at))) }
+    ensures err { IfErr result (IsCutShort (listening_line listen.now.server listen.now.at)
+        (O.told out.old) (O.told out.new) (O.faults out.old) (O.faults out.new)) }
+    ensures later { O.faults out.old ≤ O.faults out.new }
 {
     match listening_line(alloc, listen.server.as_slice(), listen.at) {
-        Ok(line) => say(out, &line),
+        Ok(line) => match say(out, line.as_slice()) {
+            Ok(()) => Ok(()),
+            Err(status) => Err(status),
+        },
         Err(_) => Err(Status::NoMemory),
     }
 }
 
-/// Prints the counts of the entries from a place on, where the serving came to its end.
+/// Prints the counts of a run whose worker is deaf, and the socket fault.
+fn close_deaf<O: Sink>(out: &mut O, counts: &Octets) -> Status
+    ensures printed { Tells (O.told out.old) (O.told out.new) (Prints (counts.now ++ socket_fault_line)
+        (Rose (O.faults out.old) (O.faults out.new))) }
+    ensures status { result ≡ Status.SocketFault }
+    ensures later { O.faults out.old ≤ O.faults out.new }
+{
+    match say(out, counts.as_slice()) {
+        Ok(()) => {
+            let _ = say(out, SOCKET_FAULT);
+            Status::SocketFault
+        }
+        Err(_) => Status::SocketFault,
+    }
+}
+
+/// Prints the counts of a run whose worker came to its end.
+fn close_served<O: Sink>(out: &mut O, counts: &Octets) -> Status
+    ensures printed { Tells (O.told out.old) (O.told out.new) (Prints counts.now
+        (Rose (O.faults out.old) (O.faults out.new))) }
+    ensures status { (result ≡ Status.Done) ⊎ ((result ≡ Status.PrintFault) × Rose (O.faults out.old) (O.faults out.new)) }
+    ensures later { O.faults out.old ≤ O.faults out.new }
+{
+    match say(out, counts.as_slice()) {
+        Ok(()) => Status::Done,
+        Err(status) => status,
+    }
+}
+
+/// Prints the counts of the entries from a place on, and what else stands at the end of a run whose worker left so.
 fn close<L: Shelf, O: Sink>(
     alloc: Global,
     out: &mut O,
@@ -43,34 +81,41 @@ fn close<L: Shelf, O: Sink>(
     from: usize,
     left: Left,
 ) -> Status
-    ensures { IsServing result }
+    ensures printed { Tells (O.told out.old) (O.told out.new) (Prints (closing_lines (number_of result) (drop from hub.now.history))
+        (IsExcused (O.faults out.old) (O.faults out.new) (number_of result))) }
+    ensures serving { IsServing result }
+    ensures done { result ≡ Status.Done → IsAtEnd (Some left) }
+    ensures deaf { result ≡ Status.SocketFault → left ≡ Left.Deaf }
+    ensures fault { result ≡ Status.PrintFault → Rose (O.faults out.old) (O.faults out.new) }
+    ensures later { O.faults out.old ≤ O.faults out.new }
 {
+    let Ok(counts) = counts_line(alloc, hub.counts_from(from)) else {
+        return Status::NoMemory;
+    };
     match left {
+        Left::Stopped | Left::Ended => close_served(out, &counts),
+        Left::Deaf => close_deaf(out, &counts),
         Left::NoMemory => Status::NoMemory,
-        Left::Ended => match counts_line(alloc, hub.counts_from(from)) {
-            Err(_) => Status::NoMemory,
-            Ok(line) => match say(out, &line) {
-                Ok(()) => Status::Done,
-                Err(status) => status,
-            },
-        },
     }
 }
 
 /// The status of a crew that handed out no kit, which is printed where a device failed.
 fn without_kit<O: Sink>(out: &mut O, fault: KitFault) -> Status
-    ensures { IsServing result }
+    ensures printed { Tells (O.told out.old) (O.told out.new) (Prints socket_fault_line
+        (IsExcused (O.faults out.old) (O.faults out.new) (number_of result))) }
+    ensures status { ((result ≡ Status.SocketFault) × (fault ≡ KitFault.Failed)) ⊎ (result ≡ Status.NoMemory) }
+    ensures later { O.faults out.old ≤ O.faults out.new }
 {
     match fault {
         KitFault::NoMemory => Status::NoMemory,
         KitFault::Failed => {
-            let _ = out.write(b"socket fault\n");
+            let _ = say(out, SOCKET_FAULT);
             Status::SocketFault
         }
     }
 }
 
-/// Serves a site: installs its generation, takes a kit for its listener and serves it until its wire has ended.
+/// Serves a site: installs its generation, takes a kit for its listener and serves it until its worker leaves.
 pub(crate) fn serve_site<R, W, S, K, U, G, C, L, O>(
     rt: &R,
     alloc: Global,
@@ -91,10 +136,15 @@ where
     L: Shelf,
     O: Sink,
     requires { kits.old.items ≡ [] }
-    ensures headline { Headline (record { wire = W.told; clock = K.told; luck = U.told }) (C.told crew.old)
-        (C.told crew.new) hub.old.history hub.new.history kits.new.items }
-    ensures log { hub.new.log ≡ hub.old.log }
+    ensures headline { Headline (record { wire = W.told; clock = K.told; luck = U.told; failures = W.failures_in_a_row; has_ended = W.has_ended })
+        (Serving generation) (number_of result) (C.told crew.old) (C.told crew.new) hub.old.log hub.new.log
+        (O.told out.old) (O.told out.new) (O.faults out.old) (O.faults out.new) hub.old.history hub.new.history kits.new.items }
     ensures serving { IsServing result }
+    ensures over { result ≡ Status.Done → IsTrue (state_after hub.new.history).is_stopped
+        ⊎ AllByRecursion (λ kit. IsTrue (W.has_ended kit.wire)) kits.new.items }
+    ensures socket { result ≡ Status.SocketFault → Rose (C.faults crew.old) (C.faults crew.new)
+        ⊎ HasDeafWire W.failures_in_a_row kits.new.items }
+    ensures print { result ≡ Status.PrintFault → Rose (O.faults out.old) (O.faults out.new) }
 {
     let from = hub.length();
     let Ok(listen) = install(alloc, hub, generation) else {

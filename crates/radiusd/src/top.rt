@@ -1,13 +1,18 @@
-ghost use Rattle.std.specs.Prelude.{◌≡◌, ◌↔◌, ◌⊎◌, [], map, string_bytes, None, IfOk};
+ghost use Rattle.std.specs.Prelude.{◌≡◌, ◌≤◌, ◌↔◌, ◌⊎◌, [], map, string_bytes, None, IfOk, IsTrue};
+ghost use Rattle.std.specs.List.{AllByRecursion};
 ghost use Rattle.rad_edge.specs.Telling.{Tells, Rose};
+ghost use Rattle.radiusd.specs.Course.{HasDeafWire, fault_line};
+ghost use Rattle.radiusd.specs.Headline.{Headline, RunsAs};
+ghost use Rattle.radiusd.specs.History.{state_after};
+ghost use Rattle.radiusd.specs.Printing.{Prints};
+ghost use Rattle.radiusd.specs.Statuses.{number_of, status_of, IsRefused, FaultGives, SiteGives, NothingFailed, IsListed};
 ghost use Rattle.radiusd.specs.Words.{folder_in};
-ghost use Rattle.radiusd.specs.Statuses.{fault_line, status_of, Prints, IsRefused, FaultGives};
-ghost use Rattle.radiusd.specs.Headline.{Headline};
 
 use crate::build::fault_text;
 use crate::fault::BuildFault;
 use crate::generation::Generation;
 use crate::hub::Hub;
+use crate::printing::say;
 use crate::site::serve_site;
 use crate::status::Status;
 use crate::words::{USAGE, folder_of};
@@ -16,8 +21,9 @@ use rad_edge::{Clock, Crew, Files, Gate, Kit, Luck, NoMemory, Octets, Shelf, Sin
 use std::alloc::Global;
 use std::sync::Wait;
 
-/// The line of a fault: its text and a newline.
+/// The line of a fault other than want of memory: its text and a newline.
 fn fault_line(alloc: Global, fault: &BuildFault) -> Result<Octets, NoMemory>
+    requires { ¬ (fault.now ≡ BuildFault.NoMemory) }
     ensures { IfOk result (λ line. line ≡ fault_line fault.now) }
 {
     let mut line = fault_text(alloc, fault)?.into_vec();
@@ -37,17 +43,20 @@ fn status_of(fault: &BuildFault) -> Status
     }
 }
 
-/// Prints why a site can't be built in one line, and answers the status for it. Where there is no memory for the
-/// line, nothing is printed and the status says so.
+/// Prints why a site can't be built in one line, and answers the status for it. Want of memory has no line. Where
+/// there is no memory for the line, nothing is printed and the status says so.
 fn refuse<O: Sink>(alloc: Global, out: &mut O, fault: &BuildFault) -> Status
     ensures status { (result ≡ status_of fault.now) ⊎ (result ≡ Status.NoMemory) }
-    ensures printed { result ≡ Status.Configuration → Tells (O.told out.old) (O.told out.new)
-        (Prints (fault_line fault.now) (O.faults out.old) (O.faults out.new)) }
+    ensures printed { Tells (O.told out.old) (O.told out.new) (Prints (fault_line fault.now)
+        (Rose (O.faults out.old) (O.faults out.new) ⊎ (result ≡ Status.NoMemory))) }
 {
+    if matches!(fault, BuildFault::NoMemory) {
+        return Status::NoMemory;
+    }
     let Ok(line) = fault_line(alloc, fault) else {
         return Status::NoMemory;
     };
-    let _ = out.write(line.as_slice());
+    let _ = say(out, line.as_slice());
     status_of(fault)
 }
 
@@ -74,9 +83,10 @@ where
     L: Shelf,
     O: Sink,
     requires { kits.old.items ≡ [] }
-    ensures headline { Headline (record { wire = W.told; clock = K.told; luck = U.told }) (C.told crew.old)
-        (C.told crew.new) hub.old.history hub.new.history kits.new.items }
-    ensures log { hub.new.log ≡ hub.old.log }
+    ensures headline { RunsAs (map string_bytes words.now) (F.told files.old) (F.told files.new) (λ course.
+        Headline (record { wire = W.told; clock = K.told; luck = U.told; failures = W.failures_in_a_row; has_ended = W.has_ended })
+        course (number_of result) (C.told crew.old) (C.told crew.new) hub.old.log hub.new.log
+        (O.told out.old) (O.told out.new) (O.faults out.old) (O.faults out.new) hub.old.history hub.new.history kits.new.items) }
     ensures words { (result ≡ Status.Words) ↔ (folder_in (map string_bytes words.now) ≡ None) }
     ensures refused { result ≡ Status.Configuration → IsRefused (map string_bytes words.now)
         (F.told files.old) (F.told files.new) (O.told out.old) (O.told out.new) (O.faults out.old) (O.faults out.new) }
@@ -84,10 +94,19 @@ where
         ((result ≡ Status.Configuration) ⊎ ((result ≡ Status.ReadFault) ⊎ (result ≡ Status.NoMemory)))
         (F.told files.old) (F.told files.new) }
     ensures read { result ≡ Status.ReadFault → Rose (F.faults files.old) (F.faults files.new) }
+    ensures over { result ≡ Status.Done → IsTrue (state_after hub.new.history).is_stopped
+        ⊎ AllByRecursion (λ kit. IsTrue (W.has_ended kit.wire)) kits.new.items }
+    ensures socket { result ≡ Status.SocketFault → Rose (C.faults crew.old) (C.faults crew.new)
+        ⊎ HasDeafWire W.failures_in_a_row kits.new.items }
+    ensures print { result ≡ Status.PrintFault → Rose (O.faults out.old) (O.faults out.new) }
+    ensures served { SiteGives (map string_bytes words.now)
+        (NothingFailed W.failures_in_a_row (F.faults files.old) (F.faults files.new) (C.faults crew.old) (C.faults crew.new)
+        (O.faults out.old) (O.faults out.new) kits.new.items)
+        ((result ≡ Status.Done) ⊎ (result ≡ Status.NoMemory)) (F.told files.old) (F.told files.new) }
 {
     let _ = hub.length();
     let Some(folder) = folder_of(words) else {
-        let _ = out.write(USAGE);
+        let _ = say(out, USAGE);
         return Status::Words;
     };
     match Generation::build(alloc, files, folder) {
@@ -96,15 +115,15 @@ where
     }
 }
 
-/// The server. With the words `radiusd -s -d DIR` it serves the site in that folder on one thread until the wire of
-/// its listener has ended, and answers the exit status of the program.
+/// The server. With the words `radiusd -s -d DIR` it serves the site in that folder on one thread until its worker
+/// leaves, and answers the exit status of the program: 0 the listener's wire ended or a stop came, 1 other words, 2 a
+/// fault of the configuration, 3 a read fault, 4 a socket fault, 6 a print fault, 8 want of memory.
 ///
-/// The headline holds of every run, whatever its status: see `specs/Headline.antt`. Statuses: 0 the wire ended,
-/// 1 other words, 2 a fault of the configuration, 3 a read fault, 4 a socket fault, 6 a print fault, 8 want of memory.
-///
-/// Status 1 comes exactly where the words are others. Status 2 comes only where the site is built to a fault of its
-/// own text, whose line `FILE[LINE]: REASON` is printed, and 3 only where the files' count of faults rose. A site that
-/// has a fault is answered 2, 3 or 8: see `specs/Statuses.antt`.
+/// The headline holds of every run, whatever its status: see `specs/Headline.antt`. What each status says, and when it
+/// comes, is in `specs/Statuses.antt`: 1 exactly where the words are others; 2 only where the site is built to a fault
+/// of its own text, whose line `FILE[LINE]: REASON` is printed; 3, 4 and 6 only where the files, the crew or a wire, and
+/// the sink failed; 0 only where a stop stands or the wires ended. A site that has a fault is answered 2, 3 or 8, and
+/// one without a fault 0 or 8 where nothing failed.
 pub fn radiusd<R, F, W, S, K, U, G, C, L, O>(
     rt: &R,
     alloc: Global,
@@ -127,15 +146,27 @@ where
     L: Shelf + Send,
     O: Sink + Send,
     requires { kits.old.items ≡ [] }
-    ensures headline { Headline (record { wire = W.told; clock = K.told; luck = U.told }) (C.told crew.old)
-        (C.told crew.new) hub.old.history hub.new.history kits.new.items }
-    ensures log { hub.new.log ≡ hub.old.log }
+    ensures headline { RunsAs (map string_bytes words.now) (F.told files.old) (F.told files.new) (λ course.
+        Headline (record { wire = W.told; clock = K.told; luck = U.told; failures = W.failures_in_a_row; has_ended = W.has_ended })
+        course (result) (C.told crew.old) (C.told crew.new) hub.old.log hub.new.log
+        (O.told out.old) (O.told out.new) (O.faults out.old) (O.faults out.new) hub.old.history hub.new.history kits.new.items) }
     ensures words { (result ≡ 1) ↔ (folder_in (map string_bytes words.now) ≡ None) }
     ensures refused { result ≡ 2 → IsRefused (map string_bytes words.now)
         (F.told files.old) (F.told files.new) (O.told out.old) (O.told out.new) (O.faults out.old) (O.faults out.new) }
-    ensures found { FaultGives (map string_bytes words.now) ((result ≡ 2) ⊎ ((result ≡ 3) ⊎ (result ≡ 8)))
+    ensures found { FaultGives (map string_bytes words.now)
+        ((result ≡ 2) ⊎ ((result ≡ 3) ⊎ (result ≡ 8)))
         (F.told files.old) (F.told files.new) }
     ensures read { result ≡ 3 → Rose (F.faults files.old) (F.faults files.new) }
+    ensures over { result ≡ 0 → IsTrue (state_after hub.new.history).is_stopped
+        ⊎ AllByRecursion (λ kit. IsTrue (W.has_ended kit.wire)) kits.new.items }
+    ensures socket { result ≡ 4 → Rose (C.faults crew.old) (C.faults crew.new)
+        ⊎ HasDeafWire W.failures_in_a_row kits.new.items }
+    ensures print { result ≡ 6 → Rose (O.faults out.old) (O.faults out.new) }
+    ensures served { SiteGives (map string_bytes words.now)
+        (NothingFailed W.failures_in_a_row (F.faults files.old) (F.faults files.new) (C.faults crew.old) (C.faults crew.new)
+        (O.faults out.old) (O.faults out.new) kits.new.items)
+        ((result ≡ 0) ⊎ (result ≡ 8)) (F.told files.old) (F.told files.new) }
+    ensures listed { IsListed result }
 {
     run(rt, alloc, words, files, crew, kits, hub, out).number()
 }

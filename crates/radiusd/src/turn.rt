@@ -86,6 +86,7 @@ pub(crate) fn take_turn<L, S: Shelf, G: Gate>(
         (answers_of (arrived_of arrival.entry.now) result buffer.new) }
     ensures fits { FitsAnswer result }
     ensures buffer { length buffer.new ≡ 4096 }
+    ensures shelf { shelf.new ≡ shelf.old }
     ensures log { log_of core.new ≡ log_of core.old }
 {
     let Room {

@@ -1,21 +1,32 @@
-use Rattle.std.proofs.Common.{refl, ◌∙◌}
+use Rattle.std.proofs.Common.{None, Some, refl, ◌∙◌, ◌≡◌, ◌<◌, arith}
+use Rattle.radiusd.specs.Told.{KitTells}
 use Rattle.radiusd.proofs.Passes.{goes_on_still, GoesOn-trans}
 use Rattle.radiusd.proofs.serving.serve.Goals as goal
 
 pub loop-init : goal.loop-init
-loop-init g c = record {
-  goes_on = goes_on_still (record { wire = g.W.Wire.told; clock = g.K.Clock.told; luck = g.U.Luck.told }) c.args.worker c.args.listen.now c.args.hub.now.history c.args.kit.now;
-  log = refl;
-}
-
-pub returns-in-Some-pass-clause-goes_on : goal.returns-in-Some-pass-clause-goes_on
-returns-in-Some-pass-clause-goes_on g c =
-    GoesOn-trans (record { wire = g.W.Wire.told; clock = g.K.Clock.told; luck = g.U.Luck.told }) c.args.worker c.args.listen.now
-    c.args.hub.now.history c.loop.hub.history c.pass.new.hub.history c.args.kit.now c.loop.kit c.pass.new.kit c.loop.invariant.goes_on c.pass.ensures.goes_on
+loop-init g c =
+    let tells : KitTells g.row.W.Denot g.row.K.Denot g.row.U.Denot = record { wire = g.W.Wire.told; clock = g.K.Clock.told; luck = g.U.Luck.told; failures = g.W.Wire.failures_in_a_row; has_ended = g.W.Wire.has_ended } in
+    let counted : 0 ≡ g.W.Wire.failures_in_a_row c.args.kit.now.wire = cc in
+    let few : 0 < 100 = omega arith in
+    record {
+      goes_on = goes_on_still tells c.args.worker c.args.listen.now c.args.hub.now.history c.args.kit.now None tt (λ e. cc);
+      counted = counted;
+      few = few;
+      log = refl;
+    }
 
 pub loop-preserved : goal.loop-preserved
-loop-preserved g c = record {
-  goes_on = GoesOn-trans (record { wire = g.W.Wire.told; clock = g.K.Clock.told; luck = g.U.Luck.told }) c.args.worker c.args.listen.now
-      c.args.hub.now.history c.loop.hub.history c.pass.new.hub.history c.args.kit.now c.loop.kit c.pass.new.kit c.loop.invariant.goes_on c.pass.ensures.goes_on;
-  log = c.pass.ensures.log ∙ c.loop.invariant.log;
-}
+loop-preserved g c =
+    let tells : KitTells g.row.W.Denot g.row.K.Denot g.row.U.Denot = record { wire = g.W.Wire.told; clock = g.K.Clock.told; luck = g.U.Luck.told; failures = g.W.Wire.failures_in_a_row; has_ended = g.W.Wire.has_ended } in
+    record {
+      goes_on = GoesOn-trans tells c.args.worker c.args.listen.now None c.args.hub.now.history c.loop.hub.history c.pass.new.hub.history c.args.kit.now c.loop.kit c.pass.new.kit c.loop.invariant.goes_on c.in-On.ensures.goes_on;
+      counted = c.in-On.ensures.counted.0;
+      few = omega (arith, c.in-On.ensures.counted.0, c.in-On.ensures.counted.1);
+      log = c.pass.ensures.log ∙ c.loop.invariant.log;
+    }
+
+pub returns-in-Leaving-clause-goes_on : goal.returns-in-Leaving-clause-goes_on
+returns-in-Leaving-clause-goes_on g c =
+    let tells : KitTells g.row.W.Denot g.row.K.Denot g.row.U.Denot = record { wire = g.W.Wire.told; clock = g.K.Clock.told; luck = g.U.Luck.told; failures = g.W.Wire.failures_in_a_row; has_ended = g.W.Wire.has_ended } in
+    GoesOn-trans tells c.args.worker c.args.listen.now (Some c.in-Leaving.left)
+    c.args.hub.now.history c.loop.hub.history c.pass.new.hub.history c.args.kit.now c.loop.kit c.pass.new.kit c.loop.invariant.goes_on c.in-Leaving.ensures.goes_on

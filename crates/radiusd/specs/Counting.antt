@@ -1,0 +1,72 @@
+-- The counts of a run, over the entries that it added. This project's own.
+use Rattle.std.specs.Prelude.{Bool, true, false, List, drop}
+use Rattle.std.specs.List.{count_by}
+use Rattle.rad_core.specs.declared.ending.Ending.{Ending}
+use Rattle.rad_core.specs.declared.ending.Ending.TheVariants.{Sent, Withheld, OutOfMemory}
+use Rattle.rad_core.specs.declared.installed.Installed.{Installed}
+use Rattle.rad_core.specs.declared.installed.Installed.TheVariants as installed
+use Rattle.rad_core.specs.Entry.{Entry, Start, Finish, Install, Look, Stop}
+use Rattle.radiusd.specs.declared.fault.BuildFault.{BuildFault}
+use Rattle.radiusd.specs.declared.counts.Counts.{Counts}
+use Rattle.radiusd.specs.declared.counts.Counted.{Counted}
+use Rattle.radiusd.specs.declared.counts.Counted.TheVariants as counted
+use Rattle.radiusd.specs.Installing.{is_present_by}
+use Rattle.radiusd.specs.Site.{Site}
+
+-- A start is a request.
+abbrev pub is_request : Entry Site BuildFault → Bool
+is_request (Start arrival answer) = true
+is_request (Finish worker place ending) = false
+is_request (Install worker load listeners answer) = false
+is_request (Look worker seen) = false
+is_request (Stop worker) = false
+
+-- An ending that sends octets is a reply.
+abbrev pub sends : Ending → Bool
+sends (Sent octets) = true
+sends Withheld = false
+sends OutOfMemory = false
+
+abbrev pub is_reply : Entry Site BuildFault → Bool
+is_reply (Start arrival answer) = false
+is_reply (Finish worker place ending) = sends ending
+is_reply (Install worker load listeners answer) = false
+is_reply (Look worker seen) = false
+is_reply (Stop worker) = false
+
+-- An install that made its load the present generation.
+abbrev pub is_install : Entry Site BuildFault → Bool
+is_install (Start arrival answer) = false
+is_install (Finish worker place ending) = false
+is_install (Install worker load listeners answer) = is_present_by answer
+is_install (Look worker seen) = false
+is_install (Stop worker) = false
+
+-- An install that left the present generation.
+abbrev pub leaves_present : Installed BuildFault → Bool
+leaves_present (installed.Generation number) = false
+leaves_present (installed.Refused fault) = true
+leaves_present (installed.ListenerGone name) = true
+
+abbrev pub is_refusal : Entry Site BuildFault → Bool
+is_refusal (Start arrival answer) = false
+is_refusal (Finish worker place ending) = false
+is_refusal (Install worker load listeners answer) = leaves_present answer
+is_refusal (Look worker seen) = false
+is_refusal (Stop worker) = false
+
+-- Whether an entry counts as this.
+unfoldable pub is_counted : Counted → Entry Site BuildFault → Bool
+is_counted counted.Request entry = is_request entry
+is_counted counted.Reply entry = is_reply entry
+is_counted counted.Install entry = is_install entry
+is_counted counted.Refusal entry = is_refusal entry
+
+-- Starts, replies, installs but for the one at the start, which is the first entry, and refused installs.
+abbrev pub counts_of : List (Entry Site BuildFault) → Counts
+counts_of added = record {
+  requests = count_by (is_counted counted.Request) added;
+  replies = count_by (is_counted counted.Reply) added;
+  reloads = count_by (is_counted counted.Install) (drop 1 added);
+  refused = count_by (is_counted counted.Refusal) added;
+}

@@ -1,0 +1,103 @@
+-- How far a run of the server came, and what it prints, adds and answers there. This project's own, after FreeRADIUS'
+-- radiusd(8).
+use Rattle.std.specs.Prelude.{ℕ, ◌≡◌, ◌⊎◌, ◌==◌, ◌≤◌, ◌++◌, List, [], ◌∷◌, length, map, Option, Some, None, Ok, Err, if◌then◌else◌}
+use Rattle.std.specs.List.{AllByRecursion}
+use Rattle.rad_edge.specs.declared.crew.Kit.{Kit}
+use Rattle.rad_edge.specs.declared.listen.Listen.{Listen}
+use Rattle.rad_edge.specs.Crew.{Handed}
+use Rattle.rad_edge.specs.Files.{FilesTold, begun}
+use Rattle.rad_edge.specs.Telling.{Tells, Rose}
+use Rattle.rad_core.specs.declared.installed.Installed.{Installed}
+use Rattle.rad_core.specs.Entry.{Entry, Install}
+use Rattle.rad_core.specs.Policy.{IsBuilt}
+use Rattle.radiusd.specs.declared.fault.BuildFault.{BuildFault}
+use Rattle.radiusd.specs.declared.fault.BuildFault.TheVariants as fault
+use Rattle.radiusd.specs.Built.{built}
+use Rattle.radiusd.specs.Counting.{counts_of}
+use Rattle.radiusd.specs.FaultText.{fault_text}
+use Rattle.radiusd.specs.History.{listener_of}
+use Rattle.radiusd.specs.Lines.{listening_line, counts_line, socket_fault_line, usage_line}
+use Rattle.radiusd.specs.Meaning.{site_meaning}
+use Rattle.radiusd.specs.Site.{Site}
+use Rattle.radiusd.specs.Words.{folder_in}
+
+-- The words were others; the folder has no generation, for this fault; the generation of this site was to be served.
+pub data Course : Type 0 where
+  Misworded : Course
+  Unbuilt : (wrong : BuildFault) → Course
+  Serving : (site : Site) → Course
+
+-- Whether a run took this course is a matter of its words and of the next map of its files: the site is what that map
+-- is built to in the words' folder, and so is a fault, or it is a read fault or want of memory.
+abbrev pub IsCourse : List (List ℕ) → Option FilesTold → Option FilesTold → Course → Type 0
+IsCourse words files_before files_now Misworded = folder_in words ≡ None
+IsCourse words files_before files_now (Unbuilt wrong) = (folder : List ℕ) × (folder_in words ≡ Some folder)
+    × Tells files_before files_now (λ before now.
+    IsBuilt site_meaning (record { files = (begun before).present; folder = folder }) (Err wrong))
+IsCourse words files_before files_now (Serving site) = (folder : List ℕ) × (folder_in words ≡ Some folder)
+    × Tells files_before files_now (λ before now.
+    built (record { files = (begun before).present; folder = folder }) ≡ Ok site)
+
+-- The line of a fault: its text, with place and reason, and a newline. Want of memory has none.
+abbrev pub fault_line : BuildFault → List ℕ
+fault_line (fault.Conf wrong) = fault_text (fault.Conf wrong) ++ 10 ∷ []
+fault_line (fault.Tree wrong) = fault_text (fault.Tree wrong) ++ 10 ∷ []
+fault_line fault.ReadFault = fault_text fault.ReadFault ++ 10 ∷ []
+fault_line fault.NoMemory = []
+
+-- What a run prints at its end, once its workers ran: the counts and, where one of them was deaf, the socket fault.
+abbrev pub closing_lines : ℕ → List (Entry Site BuildFault) → List ℕ
+closing_lines status added = counts_line (counts_of added) ++ (if status == 4 then socket_fault_line else [])
+
+-- What a run prints that serves a site: the listening line and then the closing ones. Where no kit could be had it is
+-- the socket fault alone.
+abbrev pub serving_lines : {H : Type 0} → Site → ℕ → List H → List (Entry Site BuildFault) → List ℕ
+serving_lines site status [] added = socket_fault_line
+serving_lines site status (handed ∷ more) added = listening_line site.server site.at ++ closing_lines status added
+
+-- The lines of a run, by its course, its exit status, the kits that were handed out and the entries that it added.
+abbrev pub lines_of : {H : Type 0} → Course → ℕ → List H → List (Entry Site BuildFault) → List ℕ
+lines_of Misworded status handed added = usage_line
+lines_of (Unbuilt wrong) status handed added = fault_line wrong
+lines_of (Serving site) status handed added = serving_lines site status handed added
+
+-- What excuses a run that doesn't print all of its lines: the sink failed, or memory ran out.
+abbrev pub IsExcused : ℕ → ℕ → ℕ → Type 0
+IsExcused faults_before faults_now status = Rose faults_before faults_now ⊎ (status ≡ 8)
+
+-- A call of the crew.
+pub record Call : Type 0 where
+  pub worker : ℕ
+  pub listen : Listen
+  pub control : Option Listen
+
+abbrev pub call_of : {W S K U G : Type 0} → Handed W S K U G → Call
+call_of handed = record { worker = handed.worker; listen = handed.listen; control = handed.control }
+
+-- The kits that a site is served with: one, for its one listener, of worker 0, without a control wire.
+abbrev pub calls_of : Site → List Call
+calls_of site = record { worker = 0; listen = listener_of site; control = None } ∷ []
+
+-- The kits are those of the site, in order. Or there is none: then nothing but the install was added, and the status
+-- isn't 0.
+abbrev pub AreKitsOf : {W S K U G : Type 0} → Site → ℕ → List (Handed W S K U G) → List (Entry Site BuildFault) → Type 0
+AreKitsOf site status handed added =
+    (map call_of handed ≡ calls_of site)
+    ⊎ ((handed ≡ []) × (length added ≤ 1) × ¬ (status ≡ 0))
+
+-- The first entry that was added, if there is one, is the site's install for its own listener by worker 0.
+abbrev pub BeginsWithInstall : Site → List (Entry Site BuildFault) → Type 0
+BeginsWithInstall site [] = Unit {0}
+BeginsWithInstall site (entry ∷ more) =
+    (answer : Installed BuildFault) × (entry ≡ Install 0 (Ok site) (listener_of site ∷ []) answer)
+
+-- What a run adds and which kits it takes, by its course: nothing and none where it serves no site.
+abbrev pub Takes : {W S K U G : Type 0} → Course → ℕ → List (Handed W S K U G) → List (Entry Site BuildFault) → Type 0
+Takes Misworded status handed added = (added ≡ []) × (handed ≡ [])
+Takes (Unbuilt wrong) status handed added = (added ≡ []) × (handed ≡ [])
+Takes (Serving site) status handed added = BeginsWithInstall site added × AreKitsOf site status handed added
+
+-- One of these kits has a wire whose last 100 asks failed.
+abbrev pub HasDeafWire : {W S K U G : Type 0} → (W → ℕ) → List (Kit W S K U G) → Type 0
+HasDeafWire failures [] = ⊥
+HasDeafWire failures (kit ∷ more) = (100 ≤ failures kit.wire) ⊎ HasDeafWire failures more
