@@ -14,7 +14,7 @@ pub record CrewState (W S K U G : Type 0) : Type 0 where
   pub spares : List (Kit W S K U G)
   pub handed : List (Handed W S K U G)
   pub faults : ℕ
-  pub calls : Plan
+  pub calls : Plan ℕ
 
 -- No ask of the kit's wires failed last, by this count of failures in a row.
 abbrev pub IsFresh : {W S K U G : Type 0} → (W → ℕ) → Kit W S K U G → Type 0

@@ -10,7 +10,7 @@ use Rattle.rad_edge.specs.declared.files.Found.TheVariants as found
 pub record FilesState : Type 0 where
   pub told : FilesTold
   pub faults : ℕ
-  pub reads : Plan
+  pub reads : Plan ℕ
 
 -- The files of a list of paths and octets.
 abbrev pub files_of : List (List ℕ × List ℕ) → List File

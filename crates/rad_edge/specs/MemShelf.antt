@@ -2,7 +2,7 @@
 use Rattle.std.specs.Prelude.{ℕ, ◌≡◌, ◌-◌, ◌++◌, ◌⊎◌, min, List, [], ◌∷◌, length, Option, Some, None, is_some, Result, IsErr, is_err}
 use Rattle.std.specs.Option.{option_map}
 use Rattle.rad_edge.specs.Memory.{faults_after}
-use Rattle.rad_edge.specs.Failing.{CutPlan, next_cut, appended}
+use Rattle.rad_edge.specs.Failing.{Plan, next_cut, called}
 use Rattle.rad_edge.specs.declared.shelf.Append.{Append}
 use Rattle.rad_edge.specs.declared.fault.Failed.{Failed}
 
@@ -10,7 +10,7 @@ use Rattle.rad_edge.specs.declared.fault.Failed.{Failed}
 pub record ShelfState : Type 0 where
   pub told : Option (List Append)
   pub faults : ℕ
-  pub appends : CutPlan
+  pub appends : Plan (ℕ × ℕ)
 
 -- How many octets of a piece are appended: all, or those that a planned failure leaves, cut to one below the piece's length.
 abbrev pub count_written : Option ℕ → List ℕ → ℕ
@@ -22,7 +22,7 @@ abbrev pub after_append : ShelfState → List ℕ → List ℕ → Result (Unit 
 after_append shelf path piece result = record {
   told = option_map (λ told. told ++ record { path = path; piece = piece; written = count_written (next_cut shelf.appends) piece } ∷ []) shelf.told;
   faults = faults_after result shelf.faults;
-  appends = appended shelf.appends;
+  appends = called shelf.appends;
 }
 
 -- The same shelf, but it tells nothing.

@@ -9,7 +9,7 @@ use Rattle.rad_edge.specs.declared.fault.Failed.{Failed}
 pub record SinkState : Type 0 where
   pub told : Option (List ℕ)
   pub faults : ℕ
-  pub writes : Plan
+  pub writes : Plan ℕ
 
 -- What the sink is after a write, which adds the octets. A failure that was planned writes nothing. Any other is want of memory for the record, and the sink tells nothing from then on.
 abbrev pub after_write : SinkState → List ℕ → Result (Unit {0}) Failed → SinkState

@@ -17,8 +17,8 @@ pub record WireState : Type 0 where
   pub told : Option WireTold
   pub faults : ℕ
   pub failures_in_a_row : ℕ
-  pub receives : Plan
-  pub sends : Plan
+  pub receives : Plan ℕ
+  pub sends : Plan ℕ
 
 -- What the script has it answer: the next cue, a datagram cut to 4,096 octets, and that it ended where no cue is left.
 abbrev pub next_answer : List Cue → Heard

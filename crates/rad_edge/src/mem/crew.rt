@@ -4,7 +4,7 @@ ghost use Rattle.rad_edge.specs.Telling.{Counts};
 ghost use Rattle.rad_edge.specs.Crew.{handed_by};
 ghost use Rattle.rad_edge.specs.MemCrew.{IsFresh, HandsNext, next_kit, after_kit};
 
-use super::failing::FailingCalls;
+use super::failing::Failing;
 use super::room::push_within;
 use crate::crew::{Crew, Kit};
 use crate::fault::{KitFault, NoMemory};
@@ -32,7 +32,7 @@ pub struct MemCrew<W: Wire + Drop, S: Drop, K: Drop, U: Drop, G: Drop> {
     spares: VecDeque<Kit<W, S, K, U, G>>,
     handed: Vec<Handing<W, S, K, U, G>>,
     faults: u64,
-    calls: FailingCalls,
+    calls: Failing<u64>,
 }
 
 impl<W: Wire + Drop, S: Drop, K: Drop, U: Drop, G: Drop> Model for MemCrew<W, S, K, U, G> {
@@ -71,7 +71,7 @@ impl<W: Wire + Drop, S: Drop, K: Drop, U: Drop, G: Drop> MemCrew<W, S, K, U, G> 
             spares: VecDeque::new(alloc),
             handed: Vec::new(alloc),
             faults: 0,
-            calls: FailingCalls::new(failing),
+            calls: Failing::new(failing),
         }
     }
 

@@ -1,31 +1,33 @@
 ghost use Rattle.std.specs.Prelude.{◌≡◌};
-ghost use Rattle.rad_edge.specs.Failing.{is_next, fails_next, called, next_cut, appended};
+ghost use Rattle.rad_edge.specs.Failing.{is_next, fails_next, called, next_cut};
 
 use std::marker::Model;
 
 /// The calls that are to fail, by their numbers, counted from 1.
 #[derive(Debug, Drop)]
-pub struct FailingCalls {
-    failing: Vec<u64>,
+pub struct Failing<C: Drop> {
+    failing: Vec<C>,
     made: u64,
 }
 
-impl Model for FailingCalls {
+impl<C: Drop> Model for Failing<C> {
     ghost use Rattle.rad_edge.specs.Failing.{Plan};
 
-    ghost Value = { Plan };
+    ghost Value = { Plan C };
 
     ghost view = { λ f. record { failing = f.failing.items; made = f.made } };
 }
 
-impl FailingCalls {
+impl<C: Drop> Failing<C> {
     /// These calls are to fail, and none was made yet.
-    pub fn new(failing: Vec<u64>) -> FailingCalls
+    pub fn new(failing: Vec<C>) -> Failing<C>
         ensures { result ≡ record { failing = failing.items; made = 0 } }
     {
-        FailingCalls { failing, made: 0 }
+        Failing { failing, made: 0 }
     }
+}
 
+impl Failing<u64> {
     /// Counts one more call, and says whether it is to fail.
     pub fn next(&mut self) -> bool
         ensures answer { result ≡ fails_next self.old }
@@ -39,33 +41,11 @@ impl FailingCalls {
     }
 }
 
-/// The appends that are to fail, by their numbers, counted from 1, each with how many octets are still appended.
-#[derive(Debug, Drop)]
-pub struct FailingAppends {
-    failing: Vec<(u64, usize)>,
-    made: u64,
-}
-
-impl Model for FailingAppends {
-    ghost use Rattle.rad_edge.specs.Failing.{CutPlan};
-
-    ghost Value = { CutPlan };
-
-    ghost view = { λ f. record { failing = f.failing.items; made = f.made } };
-}
-
-impl FailingAppends {
-    /// These appends are to fail, and none was made yet.
-    pub fn new(failing: Vec<(u64, usize)>) -> FailingAppends
-        ensures { result ≡ record { failing = failing.items; made = 0 } }
-    {
-        FailingAppends { failing, made: 0 }
-    }
-
+impl Failing<(u64, usize)> {
     /// Counts one more append, and answers how many octets are still appended where it is to fail.
-    pub fn next(&mut self) -> Option<usize>
+    pub fn next_cut(&mut self) -> Option<usize>
         ensures answer { result ≡ next_cut self.old }
-        ensures state { self.new ≡ appended self.old }
+        ensures state { self.new ≡ called self.old }
     {
         let made = self.made;
         self.made = made.saturating_add(1);

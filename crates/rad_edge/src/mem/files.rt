@@ -4,7 +4,7 @@ ghost use Rattle.rad_edge.specs.Failing.{fails_next};
 ghost use Rattle.rad_edge.specs.Files.{begun, IsReading};
 ghost use Rattle.rad_edge.specs.MemFiles.{files_of, told_after, after_begin, after_read};
 
-use super::failing::FailingCalls;
+use super::failing::Failing;
 use crate::files::{Files, Found};
 use crate::octets::Octets;
 use std::alloc::Global;
@@ -17,7 +17,7 @@ pub struct MemFiles {
     maps: Vec<Vec<(Octets, Octets)>>,
     begins: usize,
     faults: u64,
-    reads: FailingCalls,
+    reads: Failing<u64>,
 }
 
 impl Model for MemFiles {
@@ -49,7 +49,7 @@ impl MemFiles {
             maps,
             begins: 0,
             faults: 0,
-            reads: FailingCalls::new(failing),
+            reads: Failing::new(failing),
         }
     }
 }

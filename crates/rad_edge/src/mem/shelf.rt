@@ -4,7 +4,7 @@ ghost use Rattle.rad_edge.specs.Shelf.{Appends};
 ghost use Rattle.rad_edge.specs.Failing.{next_cut};
 ghost use Rattle.rad_edge.specs.MemShelf.{AppendsNext, count_written};
 
-use super::failing::FailingAppends;
+use super::failing::Failing;
 use crate::fault::{Failed, NoMemory};
 use crate::octets::Octets;
 use crate::shelf::{Append, Shelf};
@@ -18,7 +18,7 @@ pub struct MemShelf {
     pieces: Vec<Append>,
     is_telling: bool,
     faults: u64,
-    appends: FailingAppends,
+    appends: Failing<(u64, usize)>,
 }
 
 impl Model for MemShelf {
@@ -49,7 +49,7 @@ impl MemShelf {
             pieces: Vec::new(alloc),
             is_telling: true,
             faults: 0,
-            appends: FailingAppends::new(failing),
+            appends: Failing::new(failing),
         }
     }
 
@@ -73,7 +73,7 @@ impl Shelf for MemShelf {
         ensures plan { IsSome (next_cut self.old.appends) → IsErr result }
         ensures state { AppendsNext path.now bytes.now self.old result self.new }
     {
-        let cut = self.appends.next();
+        let cut = self.appends.next_cut();
         let written = count_of(cut, bytes);
         let is_recorded = push_piece(self.alloc, &mut self.pieces, path, bytes, written).is_ok();
         if !is_recorded {

@@ -4,7 +4,7 @@ ghost use Rattle.rad_edge.specs.Sink.{Writes};
 ghost use Rattle.rad_edge.specs.Failing.{fails_next};
 ghost use Rattle.rad_edge.specs.MemSink.{after_write};
 
-use super::failing::FailingCalls;
+use super::failing::Failing;
 use crate::fault::Failed;
 use crate::sink::Sink;
 use std::alloc::Global;
@@ -16,7 +16,7 @@ pub struct MemSink {
     written: Vec<u8>,
     is_telling: bool,
     faults: u64,
-    writes: FailingCalls,
+    writes: Failing<u64>,
 }
 
 impl Model for MemSink {
@@ -45,7 +45,7 @@ impl MemSink {
             written: Vec::new(alloc),
             is_telling: true,
             faults: 0,
-            writes: FailingCalls::new(failing),
+            writes: Failing::new(failing),
         }
     }
 

@@ -5,7 +5,7 @@ ghost use Rattle.rad_edge.specs.Failing.{fails_next};
 ghost use Rattle.rad_edge.specs.MemWire.{FollowsScript, Receives, Sends, has_ended, next_answer};
 ghost use Rattle.std.specs.Option.{option_to_list};
 
-use super::failing::FailingCalls;
+use super::failing::Failing;
 use super::room::push_within;
 use crate::fault::{Failed, NoMemory};
 use crate::listen::Peer;
@@ -34,8 +34,8 @@ pub struct MemWire {
     is_telling: bool,
     faults: u64,
     failures_in_a_row: u64,
-    receives: FailingCalls,
-    sends: FailingCalls,
+    receives: Failing<u64>,
+    sends: Failing<u64>,
 }
 
 impl Model for MemWire {
@@ -80,8 +80,8 @@ impl MemWire {
             is_telling: true,
             faults: 0,
             failures_in_a_row: 0,
-            receives: FailingCalls::new(failing_receives),
-            sends: FailingCalls::new(failing_sends),
+            receives: Failing::new(failing_receives),
+            sends: Failing::new(failing_sends),
         }
     }
 
