@@ -15,6 +15,8 @@ use crate::wire::{Got, Heard, Sent, Wire};
 use std::alloc::Global;
 use std::test::Fail;
 
+mod failing;
+
 const NAS: Peer = Peer {
     addr: 0xc0a8_0110,
     port: 1024,
@@ -231,6 +233,14 @@ fn take<C: Crew<MemWire, MemShelf, ListClock, ListLuck, OpenGate>>(
     }
 }
 
+fn listen_of(alloc: Global) -> Result<Listen, NoMemory> {
+    Ok(Listen {
+        server: Octets::of(alloc, b"default")?,
+        kind: ListenKind::Auth,
+        at: NAS,
+    })
+}
+
 fn crew_of(
     alloc: Global,
 ) -> Result<MemCrew<MemWire, MemShelf, ListClock, ListLuck, OpenGate>, NoMemory> {
@@ -245,11 +255,7 @@ fn is_sent<T: Send>(_value: &T) {}
 #[test]
 fn a_crew_hands_out_its_kits_in_order(rt: HostRuntime) -> Result<(), Fail> {
     let alloc: Global = rt.alloc();
-    let listen = Listen {
-        server: Octets::of(alloc, b"default")?,
-        kind: ListenKind::Auth,
-        at: NAS,
-    };
+    let listen = listen_of(alloc)?;
     is_sent(&kit_of(alloc, 0, true)?);
     let mut crew = crew_of(alloc)?;
     for (with_control, want) in [
