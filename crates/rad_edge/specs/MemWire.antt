@@ -80,13 +80,13 @@ abbrev pub untold : WireState → WireState
 untold wire = record wire { told = None }
 
 -- An ask gives the answer that is due and is told. For want of memory for the record it fails, and the wire tells nothing from then on.
-abbrev pub Receives : WireState → Heard → WireState → Type 0
-Receives before answer now =
+abbrev pub ReceivesNext : WireState → Heard → WireState → Type 0
+ReceivesNext before answer now =
     ((answer ≡ due_answer before) × (now ≡ after_recv before answer))
     ⊎ ((answer ≡ heard.Failed) × (now ≡ untold (after_recv before answer)))
 
 -- A send fails exactly where it is to fail, and is told. For want of memory for the record it fails too, and the wire tells nothing from then on.
-abbrev pub Sends : Peer → List ℕ → WireState → Result (Unit {0}) Failed → WireState → Type 0
-Sends to octets before result now =
+abbrev pub SendsNext : Peer → List ℕ → WireState → Result (Unit {0}) Failed → WireState → Type 0
+SendsNext to octets before result now =
     ((is_err result ≡ fails_next before.sends) × (now ≡ after_send before to octets result))
     ⊎ (IsErr result × (now ≡ untold (after_send before to octets result)))

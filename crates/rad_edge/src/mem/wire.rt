@@ -2,7 +2,7 @@ ghost use Rattle.std.specs.Prelude.{◌≡◌, ◌≤◌, ◌++◌, ◌∷◌, [
 ghost use Rattle.rad_edge.specs.Telling.{Tells, Counts};
 ghost use Rattle.rad_edge.specs.Wire.{heard_of, FitsBuffer, failures_after, IsEnding};
 ghost use Rattle.rad_edge.specs.Failing.{fails_next};
-ghost use Rattle.rad_edge.specs.MemWire.{FollowsScript, Receives, Sends, has_ended, next_answer};
+ghost use Rattle.rad_edge.specs.MemWire.{FollowsScript, ReceivesNext, SendsNext, has_ended, next_answer};
 ghost use Rattle.std.specs.Option.{option_to_list};
 
 use super::failing::Failing;
@@ -119,7 +119,7 @@ impl Wire for MemWire {
         ensures end { IsEnding (has_ended self.old) (has_ended self.new) result }
         ensures script { FollowsScript self.old.script (heard_of result buffer.new) }
         ensures plan { IsTrue (fails_next self.old.receives) → result ≡ Got.Failed }
-        ensures state { Receives self.old (heard_of result buffer.new) self.new }
+        ensures state { ReceivesNext self.old (heard_of result buffer.new) self.new }
     {
         let is_to_fail = self.receives.next();
         let is_recorded = self.heard.reserve(1).is_ok();
@@ -147,7 +147,7 @@ impl Wire for MemWire {
         ensures row { self.new.failures_in_a_row ≡ self.old.failures_in_a_row }
         ensures end { has_ended self.new ≡ has_ended self.old }
         ensures plan { IsTrue (fails_next self.old.sends) → IsErr result }
-        ensures state { Sends to bytes.now self.old result self.new }
+        ensures state { SendsNext to bytes.now self.old result self.new }
     {
         let done = !self.sends.next();
         let is_recorded = push_sent(self.alloc, &mut self.sent, to, bytes, done).is_ok();
