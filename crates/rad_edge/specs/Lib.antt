@@ -5,6 +5,7 @@ pub mod Shelf
 pub mod Sink
 pub mod Crew
 pub mod Memory
+pub mod Failing
 pub mod MemSink
 pub mod MemList
 pub mod MemWire

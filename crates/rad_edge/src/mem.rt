@@ -1,6 +1,8 @@
-//! The forms in memory: they tell all that they are asked, until memory runs out for their own record.
+//! The forms in memory: they fail at the calls that they are told to, and tell all that they are asked, until memory
+//! runs out for their own record.
 
 mod crew;
+mod failing;
 mod files;
 mod list_clock;
 mod list_luck;

@@ -16,7 +16,7 @@ const NO_MEMORY: u8 = 8;
 /// A hub whose session log is kept in memory, under the name that the site's log has where none is set.
 fn make_hub(alloc: Global) -> Result<Hub<MemShelf>, NoMemory> {
     let path = Octets::of(alloc, "radutmp.log".as_bytes())?;
-    Hub::new(alloc, MemShelf::new(alloc), path)
+    Hub::new(alloc, MemShelf::new(alloc, Vec::new(alloc)), path)
 }
 
 /// The arguments, or none where one of them is no text.

@@ -47,13 +47,13 @@ pub fn files_of(alloc: Global, conf: &[u8]) -> Result<MemFiles, NoMemory> {
     ))?;
     let mut maps = Vec::new(alloc);
     maps.push(map)?;
-    Ok(MemFiles::new(maps))
+    Ok(MemFiles::new(maps, Vec::new(alloc)))
 }
 
 /// A hub on which nothing has happened.
 pub fn hub_of(alloc: Global) -> Result<Hub<MemShelf>, NoMemory> {
     let path = Octets::of(alloc, "radutmp.log".as_bytes())?;
-    Hub::new(alloc, MemShelf::new(alloc), path)
+    Hub::new(alloc, MemShelf::new(alloc, Vec::new(alloc)), path)
 }
 
 /// A crew with one kit, whose wire gives these datagrams from one source, and whose clock says 1000.
@@ -69,12 +69,12 @@ fn crew_of(
     }
     let mut moments = Vec::new(alloc);
     moments.push(1000)?;
-    let mut crew = MemCrew::new(alloc);
+    let mut crew = MemCrew::new(alloc, Vec::new(alloc));
     crew.add(Kit {
         listener: 0,
-        wire: MemWire::new(alloc, script),
+        wire: MemWire::new(alloc, script, Vec::new(alloc), Vec::new(alloc)),
         control: None,
-        shelf: MemShelf::new(alloc),
+        shelf: MemShelf::new(alloc, Vec::new(alloc)),
         clock: ListClock::new(moments),
         luck: ListLuck::new(Vec::new(alloc)),
         gate: OpenGate,
@@ -96,7 +96,7 @@ pub fn run_with<R: Wait>(
     let mut crew = crew_of(alloc, from, datagrams)?;
     let mut hub = hub_of(alloc)?;
     let mut kits = Vec::new(alloc);
-    let mut out = MemSink::new(alloc);
+    let mut out = MemSink::new(alloc, Vec::new(alloc));
     let status = radiusd(
         rt,
         alloc,

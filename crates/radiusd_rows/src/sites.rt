@@ -203,11 +203,14 @@ fn the_first_fault_is_named_at_its_place(rt: HostRuntime) -> Result<(), Fail> {
 fn a_missing_file_is_named(rt: HostRuntime) -> Result<(), Fail> {
     let alloc: Global = rt.alloc();
     let words = words_of(alloc, WORDS)?;
-    let mut files = MemFiles::new(Vec::new(alloc));
-    let mut crew: MemCrew<MemWire, MemShelf, ListClock, ListLuck, OpenGate> = MemCrew::new(alloc);
+    let mut files = MemFiles::new(Vec::new(alloc), Vec::new(alloc));
+    let mut crew: MemCrew<MemWire, MemShelf, ListClock, ListLuck, OpenGate> = MemCrew::new(
+        alloc,
+        Vec::new(alloc),
+    );
     let mut hub = hub_of(alloc)?;
     let mut kits = Vec::new(alloc);
-    let mut out = MemSink::new(alloc);
+    let mut out = MemSink::new(alloc, Vec::new(alloc));
     let status = radiusd(
         &rt,
         alloc,
@@ -231,10 +234,13 @@ fn a_crew_without_a_kit_is_a_socket_fault(rt: HostRuntime) -> Result<(), Fail> {
         alloc,
         b"client a { ipaddr = 1.2.3.4, secret = s }\nserver b { listen { type = auth }\nauthorize { ok } }",
     )?;
-    let mut crew: MemCrew<MemWire, MemShelf, ListClock, ListLuck, OpenGate> = MemCrew::new(alloc);
+    let mut crew: MemCrew<MemWire, MemShelf, ListClock, ListLuck, OpenGate> = MemCrew::new(
+        alloc,
+        Vec::new(alloc),
+    );
     let mut hub = hub_of(alloc)?;
     let mut kits = Vec::new(alloc);
-    let mut out = MemSink::new(alloc);
+    let mut out = MemSink::new(alloc, Vec::new(alloc));
     let status = radiusd(
         &rt,
         alloc,

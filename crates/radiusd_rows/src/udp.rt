@@ -100,7 +100,7 @@ impl Crew<UntilQuiet, MemShelf, ListClock, ListLuck, OpenGate> for OneWire {
                 failures_in_a_row: 0,
             },
             control: None,
-            shelf: MemShelf::new(alloc),
+            shelf: MemShelf::new(alloc, Vec::new(alloc)),
             clock: ListClock::new(Vec::new(alloc)),
             luck: ListLuck::new(Vec::new(alloc)),
             gate: OpenGate,
@@ -129,7 +129,7 @@ fn a_request_over_udp_is_answered(rt: HostRuntime) -> Result<(), Fail> {
     let mut crew = OneWire { wire: Some(wire) };
     let mut hub = hub_of(alloc)?;
     let mut kits = Vec::new(alloc);
-    let mut out = MemSink::new(alloc);
+    let mut out = MemSink::new(alloc, Vec::new(alloc));
     let status = radiusd(
         &rt,
         alloc,

@@ -87,7 +87,7 @@ fn make_kit<R: Net + rt::Clock + Clone>(
         listener: 0,
         wire,
         control,
-        shelf: MemShelf::new(alloc),
+        shelf: MemShelf::new(alloc, Vec::new(alloc)),
         clock: HostClock::new(rt.clone().map_err(|_| KitFault::NoMemory)?),
         luck: ListLuck::new(Vec::new(alloc)),
         gate: OpenGate,

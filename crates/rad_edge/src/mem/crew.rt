@@ -4,6 +4,7 @@ ghost use Rattle.rad_edge.specs.Telling.{Counts};
 ghost use Rattle.rad_edge.specs.Crew.{handed_by};
 ghost use Rattle.rad_edge.specs.MemCrew.{IsFresh, HandsNext, next_kit, after_kit};
 
+use super::failing::Failing;
 use super::room::push_within;
 use crate::crew::{Crew, Kit};
 use crate::fault::{KitFault, NoMemory};
@@ -24,12 +25,14 @@ struct Handing<W, S, K, U, G> {
 }
 
 /// A crew in memory, which hands out the kits that were added, in order. It fails where no kit is left, and where the
-/// next one doesn't have a control wire exactly where one is asked for; then it keeps that kit.
+/// next one doesn't have a control wire exactly where one is asked for; then it keeps that kit. A call that is to fail
+/// hands out none and keeps them all.
 #[derive(Drop)]
 pub struct MemCrew<W: Wire + Drop, S: Drop, K: Drop, U: Drop, G: Drop> {
     spares: VecDeque<Kit<W, S, K, U, G>>,
     handed: Vec<Handing<W, S, K, U, G>>,
     faults: u64,
+    calls: Failing<u64>,
 }
 
 impl<W: Wire + Drop, S: Drop, K: Drop, U: Drop, G: Drop> Model for MemCrew<W, S, K, U, G> {
@@ -48,20 +51,27 @@ impl<W: Wire + Drop, S: Drop, K: Drop, U: Drop, G: Drop> Model for MemCrew<W, S,
         kit = h.kit.value;
       }) c.handed.items;
       faults = c.faults;
+      calls = c.calls;
     } };
 
     ghost invariant = { λ c. All (IsFresh W.failures_in_a_row) c.spares.items };
 }
 
 impl<W: Wire + Drop, S: Drop, K: Drop, U: Drop, G: Drop> MemCrew<W, S, K, U, G> {
-    /// A crew with no kit.
-    pub fn new(alloc: Global) -> MemCrew<W, S, K, U, G>
-        ensures { result ≡ record { spares = []; handed = []; faults = 0 } }
+    /// A crew with no kit, and the numbers of the calls that are to fail, counted from 1.
+    pub fn new(alloc: Global, failing: Vec<u64>) -> MemCrew<W, S, K, U, G>
+        ensures { result ≡ record {
+          spares = [];
+          handed = [];
+          faults = 0;
+          calls = record { failing = failing.items; made = 0 };
+        } }
     {
         MemCrew {
             spares: VecDeque::new(alloc),
             handed: Vec::new(alloc),
             faults: 0,
+            calls: Failing::new(failing),
         }
     }
 
@@ -72,6 +82,7 @@ impl<W: Wire + Drop, S: Drop, K: Drop, U: Drop, G: Drop> MemCrew<W, S, K, U, G> 
           spares = self.old.spares ++ kit ∷ [];
           handed = self.old.handed;
           faults = self.old.faults;
+          calls = self.old.calls;
         }) }
         ensures err { OnErr result (self.new ≡ self.old) }
     {
@@ -98,9 +109,13 @@ impl<W: Wire + Drop, S: Drop, K: Drop, U: Drop, G: Drop> Crew<W, S, K, U, G>
         ensures control { IfOk result (λ kit. IsSome kit.control ↔ IsSome control.entry) }
         ensures fresh { IfOk result (λ kit. (W.failures_in_a_row kit.wire ≡ 0)
             × IfSome kit.control (λ wire. W.failures_in_a_row wire ≡ 0)) }
-        ensures next { HandsNext self.old.spares (is_some control.entry) result }
+        ensures next { HandsNext self.old (is_some control.entry) result }
         ensures state { self.new ≡ after_kit self.old worker listen.now control.entry result }
     {
+        if self.calls.next() {
+            self.faults = self.faults.saturating_add(1);
+            return Err(KitFault::Failed);
+        }
         if self.handed.reserve(1).is_err() {
             return Err(KitFault::NoMemory);
         }

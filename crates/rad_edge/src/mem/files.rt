@@ -1,55 +1,84 @@
-ghost use Rattle.std.specs.Prelude.{◌≡◌, ◌≢◌, Some, map};
-ghost use Rattle.rad_edge.specs.Files.{IsReading};
-ghost use Rattle.rad_edge.specs.MemFiles.{files_of, told_after};
+ghost use Rattle.std.specs.Prelude.{◌≡◌, ◌≢◌, ◌↔◌, IsTrue, Some, map};
+ghost use Rattle.rad_edge.specs.Telling.{Counts};
+ghost use Rattle.rad_edge.specs.Failing.{fails_next};
+ghost use Rattle.rad_edge.specs.Files.{begun, IsReading};
+ghost use Rattle.rad_edge.specs.MemFiles.{files_of, told_after, after_begin, after_read};
 
+use super::failing::Failing;
 use crate::files::{Files, Found};
 use crate::octets::Octets;
 use std::alloc::Global;
 use std::marker::Model;
 
 /// Files in memory: a list of maps, each a list of paths and octets. Where a path stands twice in a map, the first counts.
+/// A read fails where it is to.
 #[derive(Debug, Drop)]
 pub struct MemFiles {
     maps: Vec<Vec<(Octets, Octets)>>,
     begins: usize,
+    faults: u64,
+    reads: Failing<u64>,
 }
 
 impl Model for MemFiles {
     ghost use Rattle.std.specs.Prelude.{◌≤◌, map, vec_len};
-    ghost use Rattle.rad_edge.specs.Files.{FilesTold};
-    ghost use Rattle.rad_edge.specs.MemFiles.{files_of, told_after};
+    ghost use Rattle.rad_edge.specs.MemFiles.{FilesState, files_of, told_after};
 
-    ghost Value = { FilesTold };
+    ghost Value = { FilesState };
 
-    ghost view = { λ f. told_after f.begins (map (λ m. files_of m.items) f.maps.items) };
+    ghost view = { λ f. record {
+      told = told_after f.begins (map (λ m. files_of m.items) f.maps.items);
+      faults = f.faults;
+      reads = f.reads;
+    } };
 
     ghost invariant = { λ f. f.begins ≤ vec_len f.maps };
 }
 
 impl MemFiles {
-    /// Files whose first map is present, and whose maps are all to come.
-    pub fn new(maps: Vec<Vec<(Octets, Octets)>>) -> MemFiles
-        ensures { result ≡ told_after 0 (map (λ m. files_of m.items) maps.items) }
+    /// Files whose first map is present, and whose maps are all to come, and the numbers of the reads that are to fail,
+    /// counted from 1. A begin isn't counted.
+    pub fn new(maps: Vec<Vec<(Octets, Octets)>>, failing: Vec<u64>) -> MemFiles
+        ensures { result ≡ record {
+          told = told_after 0 (map (λ m. files_of m.items) maps.items);
+          faults = 0;
+          reads = record { failing = failing.items; made = 0 };
+        } }
     {
-        MemFiles { maps, begins: 0 }
+        MemFiles {
+            maps,
+            begins: 0,
+            faults: 0,
+            reads: Failing::new(failing),
+        }
     }
 }
 
 impl Files for MemFiles {
-    ghost told = { λ f. Some f };
+    ghost told = { λ f. Some f.told };
 
-    ghost faults = { λ _. 0 };
+    ghost faults = { λ f. f.faults };
 
-    fn begin(&mut self) {
+    fn begin(&mut self)
+        ensures told { self.new.told ≡ begun self.old.told }
+        ensures faults { self.new.faults ≡ self.old.faults }
+        ensures state { self.new ≡ after_begin self.old }
+    {
         if self.begins < self.maps.len() {
             self.begins += 1;
         }
     }
 
     fn read(&mut self, alloc: Global, path: &str) -> Found
-        ensures told { (self.new ≡ self.old) × IsReading self.old.present path.now result }
-        ensures faults { result ≢ Found.Failed }
+        ensures told { (self.new.told ≡ self.old.told) × IsReading self.old.told.present path.now result }
+        ensures faults { Counts self.old.faults self.new.faults (result ≡ Found.Failed) }
+        ensures plan { (result ≡ Found.Failed) ↔ IsTrue (fails_next self.old.reads) }
+        ensures state { self.new ≡ after_read self.old result }
     {
+        if self.reads.next() {
+            self.faults = self.faults.saturating_add(1);
+            return Found::Failed;
+        }
         match self.maps.get(self.begins.saturating_sub(1)) {
             Some(map) => find(alloc, map.as_slice(), path),
             None => Found::Missing,

@@ -1,21 +1,24 @@
-ghost use Rattle.std.specs.Prelude.{◌≡◌, ◌≢◌, ◌++◌, ◌∷◌, [], Some, IfSome, IsErr, OnOk, length};
+ghost use Rattle.std.specs.Prelude.{◌≡◌, ◌≢◌, ◌++◌, ◌∷◌, [], Some, IfSome, IsSome, IsErr, OnOk};
 ghost use Rattle.rad_edge.specs.Telling.{Tells, Counts};
 ghost use Rattle.rad_edge.specs.Shelf.{Appends};
-ghost use Rattle.rad_edge.specs.MemShelf.{after_append};
+ghost use Rattle.rad_edge.specs.Failing.{next_cut};
+ghost use Rattle.rad_edge.specs.MemShelf.{AppendsNext, count_written};
 
+use super::failing::Failing;
 use crate::fault::{Failed, NoMemory};
 use crate::octets::Octets;
 use crate::shelf::{Append, Shelf};
 use std::alloc::Global;
 use std::marker::Model;
 
-/// A shelf in memory. It fails only where it finds no memory for its record.
+/// A shelf in memory. It fails where it is to, and where it finds no memory for its record.
 #[derive(Debug, Drop)]
 pub struct MemShelf {
     alloc: Global,
-    appends: Vec<Append>,
+    pieces: Vec<Append>,
     is_telling: bool,
     faults: u64,
+    appends: Failing<(u64, usize)>,
 }
 
 impl Model for MemShelf {
@@ -24,19 +27,29 @@ impl Model for MemShelf {
 
     ghost Value = { ShelfState };
 
-    ghost view = { λ s. record { told = told_while s.is_telling s.appends.items; faults = s.faults } };
+    ghost view = { λ s. record {
+      told = told_while s.is_telling s.pieces.items;
+      faults = s.faults;
+      appends = s.appends;
+    } };
 }
 
 impl MemShelf {
-    /// An empty shelf.
-    pub fn new(alloc: Global) -> MemShelf
-        ensures { result ≡ record { told = Some []; faults = 0 } }
+    /// An empty shelf, and the numbers of the appends that are to fail, counted from 1, each with how many octets of its
+    /// piece are still appended. They are cut to one below the piece's length.
+    pub fn new(alloc: Global, failing: Vec<(u64, usize)>) -> MemShelf
+        ensures { result ≡ record {
+          told = Some [];
+          faults = 0;
+          appends = record { failing = failing.items; made = 0 };
+        } }
     {
         MemShelf {
             alloc,
-            appends: Vec::new(alloc),
+            pieces: Vec::new(alloc),
             is_telling: true,
             faults: 0,
+            appends: Failing::new(failing),
         }
     }
 
@@ -44,7 +57,7 @@ impl MemShelf {
     pub fn appends(&self) -> &[Append]
         ensures { IfSome self.now.told (λ told. result.now ≡ told) }
     {
-        self.appends.as_slice()
+        self.pieces.as_slice()
     }
 }
 
@@ -57,33 +70,50 @@ impl Shelf for MemShelf {
         requires { bytes.now ≢ [] }
         ensures told { Tells self.old.told self.new.told (Appends path.now bytes.now result) }
         ensures faults { Counts self.old.faults self.new.faults (IsErr result) }
-        ensures state { self.new ≡ after_append self.old path.now bytes.now result }
+        ensures plan { IsSome (next_cut self.old.appends) → IsErr result }
+        ensures state { AppendsNext path.now bytes.now self.old result self.new }
     {
-        if push_whole(self.alloc, &mut self.appends, path, bytes).is_err() {
+        let cut = self.appends.next_cut();
+        let written = count_of(cut, bytes);
+        let is_recorded = push_piece(self.alloc, &mut self.pieces, path, bytes, written).is_ok();
+        if !is_recorded {
             self.is_telling = false;
-            self.faults = self.faults.saturating_add(1);
-            return Err(Failed);
         }
-        Ok(())
+        if cut.is_none() && is_recorded {
+            return Ok(());
+        }
+        self.faults = self.faults.saturating_add(1);
+        Err(Failed)
     }
 }
 
-/// Records a piece that was appended whole.
-fn push_whole(
+/// How many octets of a piece are appended: all, or those that a planned failure leaves.
+fn count_of(cut: Option<usize>, piece: &[u8]) -> usize
+    ensures { result ≡ count_written cut piece.now }
+{
+    match cut {
+        Some(count) => count.min(piece.len().saturating_sub(1)),
+        None => piece.len(),
+    }
+}
+
+/// Records a piece of which so many octets were appended.
+fn push_piece(
     alloc: Global,
-    appends: &mut Vec<Append>,
+    pieces: &mut Vec<Append>,
     path: &str,
     bytes: &[u8],
+    written: usize,
 ) -> Result<(), NoMemory>
-    ensures { OnOk result (appends.new.items
-        ≡ appends.old.items ++ record { path = path.now; piece = bytes.now; written = length bytes.now } ∷ []) }
+    ensures { OnOk result (pieces.new.items
+        ≡ pieces.old.items ++ record { path = path.now; piece = bytes.now; written = written } ∷ []) }
 {
     let path = Octets::of(alloc, path.as_bytes())?;
     let piece = Octets::of(alloc, bytes)?;
-    appends.push(Append {
+    pieces.push(Append {
         path,
         piece,
-        written: bytes.len(),
+        written,
     })?;
     Ok(())
 }

@@ -15,6 +15,8 @@ use crate::wire::{Got, Heard, Sent, Wire};
 use std::alloc::Global;
 use std::test::Fail;
 
+mod failing;
+
 const NAS: Peer = Peer {
     addr: 0xc0a8_0110,
     port: 1024,
@@ -47,14 +49,14 @@ fn each_begin_makes_the_next_map_present(rt: HostRuntime) -> Result<(), Fail> {
     let mut maps = Vec::new(alloc);
     maps.push(map_of(alloc, &[(b"d/a", b"1"), (b"d/b", b"2"), (b"d/a", b"3")])?)?;
     maps.push(map_of(alloc, &[(b"d/a", b"4")])?)?;
-    let mut files = MemFiles::new(maps);
+    let mut files = MemFiles::new(maps, Vec::new(alloc));
     for (a, b) in [(b"1", true), (b"1", true), (b"4", false), (b"4", false)] {
         assert!(rt; is_text(&mut files, alloc, "d/a", a));
         assert!(rt; is_text(&mut files, alloc, "d/b", b"2") == b);
         assert!(rt; is_missing(&mut files, alloc, "d/b") != b);
         files.begin();
     }
-    let mut none = MemFiles::new(Vec::new(alloc));
+    let mut none = MemFiles::new(Vec::new(alloc), Vec::new(alloc));
     none.begin();
     assert!(rt; is_missing(&mut none, alloc, "d/a"));
     Ok(())
@@ -66,7 +68,7 @@ fn wire_of(alloc: Global, datagrams: &[&[u8]]) -> Result<MemWire, NoMemory> {
         script.push(Cue::Datagram(Octets::of(alloc, octets)?, NAS))?;
         script.push(Cue::Quiet)?;
     }
-    Ok(MemWire::new(alloc, script))
+    Ok(MemWire::new(alloc, script, Vec::new(alloc), Vec::new(alloc)))
 }
 
 /// Whether this is the wire's next answer, with these octets.
@@ -122,7 +124,7 @@ fn send<W: Wire>(wire: &mut W, octets: &[u8]) -> Result<(), Failed> {
 #[test]
 fn a_wire_records_its_sends(rt: HostRuntime) -> Result<(), Fail> {
     let alloc: Global = rt.alloc();
-    let mut wire = MemWire::new(alloc, Vec::new(alloc));
+    let mut wire = MemWire::new(alloc, Vec::new(alloc), Vec::new(alloc), Vec::new(alloc));
     send(&mut wire, b"first")?;
     send(&mut wire, b"")?;
     assert_eq!(rt; wire.sent().len(), 2);
@@ -144,7 +146,7 @@ fn is_piece(append: &Append, path: &[u8]) -> bool {
 
 #[test]
 fn a_shelf_records_its_pieces(rt: HostRuntime) -> Result<(), Fail> {
-    let mut shelf = MemShelf::new(rt.alloc());
+    let mut shelf = MemShelf::new(rt.alloc(), Vec::new(rt.alloc()));
     put(&mut shelf, "log")?;
     put(&mut shelf, "other")?;
     assert_eq!(rt; shelf.appends().len(), 2);
@@ -160,7 +162,7 @@ fn print<S: Sink>(sink: &mut S, line: &[u8]) -> Result<(), Failed> {
 
 #[test]
 fn a_sink_records_what_is_written(rt: HostRuntime) -> Result<(), Fail> {
-    let mut sink = MemSink::new(rt.alloc());
+    let mut sink = MemSink::new(rt.alloc(), Vec::new(rt.alloc()));
     for line in [b"listening\n".as_slice(), b"", b"done\n"] {
         print(&mut sink, line)?;
     }
@@ -199,15 +201,15 @@ fn kit_of(alloc: Global, listener: u32, with_control: bool) -> Result<MemKit, No
     ensures { IfOk result (IsFresh ⟦<MemWire as Wire>⟧.failures_in_a_row) }
 {
     let control = if with_control {
-        Some(MemWire::new(alloc, Vec::new(alloc)))
+        Some(MemWire::new(alloc, Vec::new(alloc), Vec::new(alloc), Vec::new(alloc)))
     } else {
         None
     };
     Ok(Kit {
         listener,
-        wire: MemWire::new(alloc, Vec::new(alloc)),
+        wire: MemWire::new(alloc, Vec::new(alloc), Vec::new(alloc), Vec::new(alloc)),
         control,
-        shelf: MemShelf::new(alloc),
+        shelf: MemShelf::new(alloc, Vec::new(alloc)),
         clock: ListClock::new(Vec::new(alloc)),
         luck: ListLuck::new(Vec::new(alloc)),
         gate: OpenGate,
@@ -231,10 +233,18 @@ fn take<C: Crew<MemWire, MemShelf, ListClock, ListLuck, OpenGate>>(
     }
 }
 
+fn listen_of(alloc: Global) -> Result<Listen, NoMemory> {
+    Ok(Listen {
+        server: Octets::of(alloc, b"default")?,
+        kind: ListenKind::Auth,
+        at: NAS,
+    })
+}
+
 fn crew_of(
     alloc: Global,
 ) -> Result<MemCrew<MemWire, MemShelf, ListClock, ListLuck, OpenGate>, NoMemory> {
-    let mut crew = MemCrew::new(alloc);
+    let mut crew = MemCrew::new(alloc, Vec::new(alloc));
     crew.add(kit_of(alloc, 0, true)?)?;
     crew.add(kit_of(alloc, 1, false)?)?;
     Ok(crew)
@@ -245,11 +255,7 @@ fn is_sent<T: Send>(_value: &T) {}
 #[test]
 fn a_crew_hands_out_its_kits_in_order(rt: HostRuntime) -> Result<(), Fail> {
     let alloc: Global = rt.alloc();
-    let listen = Listen {
-        server: Octets::of(alloc, b"default")?,
-        kind: ListenKind::Auth,
-        at: NAS,
-    };
+    let listen = listen_of(alloc)?;
     is_sent(&kit_of(alloc, 0, true)?);
     let mut crew = crew_of(alloc)?;
     for (with_control, want) in [

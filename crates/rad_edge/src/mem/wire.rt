@@ -1,9 +1,11 @@
-ghost use Rattle.std.specs.Prelude.{◌≡◌, ◌≤◌, ◌++◌, ◌∷◌, [], Some, IfSome, IsErr, is_ok, length, take, OnOk, true};
+ghost use Rattle.std.specs.Prelude.{◌≡◌, ◌≤◌, ◌++◌, ◌∷◌, [], Some, IfSome, IsErr, IsTrue, is_ok, length, take, OnOk};
 ghost use Rattle.rad_edge.specs.Telling.{Tells, Counts};
 ghost use Rattle.rad_edge.specs.Wire.{heard_of, FitsBuffer, failures_after, IsEnding};
-ghost use Rattle.rad_edge.specs.MemWire.{FollowsScript, has_ended, after_recv, after_send, next_answer};
+ghost use Rattle.rad_edge.specs.Failing.{fails_next};
+ghost use Rattle.rad_edge.specs.MemWire.{FollowsScript, ReceivesNext, SendsNext, has_ended, next_answer};
 ghost use Rattle.std.specs.Option.{option_to_list};
 
+use super::failing::Failing;
 use super::room::push_within;
 use crate::fault::{Failed, NoMemory};
 use crate::listen::Peer;
@@ -21,7 +23,8 @@ pub enum Cue {
     Quiet,
 }
 
-/// A wire in memory, which answers a script and then that it ended. It fails only where it finds no memory for its record.
+/// A wire in memory, which answers a script and then that it ended. It fails where it is to, and where it finds no memory
+/// for its record.
 #[derive(Debug, Drop)]
 pub struct MemWire {
     alloc: Global,
@@ -31,6 +34,8 @@ pub struct MemWire {
     is_telling: bool,
     faults: u64,
     failures_in_a_row: u64,
+    receives: Failing<u64>,
+    sends: Failing<u64>,
 }
 
 impl Model for MemWire {
@@ -44,17 +49,27 @@ impl Model for MemWire {
       told = told_while w.is_telling (record { heard = w.heard.items; sent = w.sent.items });
       faults = w.faults;
       failures_in_a_row = w.failures_in_a_row;
+      receives = w.receives;
+      sends = w.sends;
     } };
 }
 
 impl MemWire {
-    /// A wire that has this script before it.
-    pub fn new(alloc: Global, script: Vec<Cue>) -> MemWire
+    /// A wire that has this script before it, and the numbers of the asks and of the sends that are to fail, each counted
+    /// from 1. An ask that is to fail takes nothing from the script, and goes before the end.
+    pub fn new(
+        alloc: Global,
+        script: Vec<Cue>,
+        failing_receives: Vec<u64>,
+        failing_sends: Vec<u64>,
+    ) -> MemWire
         ensures { result ≡ record {
           script = script.items;
           told = Some (record { heard = []; sent = [] });
           faults = 0;
           failures_in_a_row = 0;
+          receives = record { failing = failing_receives.items; made = 0 };
+          sends = record { failing = failing_sends.items; made = 0 };
         } }
     {
         MemWire {
@@ -65,6 +80,8 @@ impl MemWire {
             is_telling: true,
             faults: 0,
             failures_in_a_row: 0,
+            receives: Failing::new(failing_receives),
+            sends: Failing::new(failing_sends),
         }
     }
 
@@ -101,10 +118,17 @@ impl Wire for MemWire {
         ensures row { self.new.failures_in_a_row ≡ failures_after result self.old.failures_in_a_row }
         ensures end { IsEnding (has_ended self.old) (has_ended self.new) result }
         ensures script { FollowsScript self.old.script (heard_of result buffer.new) }
-        ensures state { self.new ≡ after_recv self.old (heard_of result buffer.new) }
+        ensures plan { IsTrue (fails_next self.old.receives) → result ≡ Got.Failed }
+        ensures state { ReceivesNext self.old (heard_of result buffer.new) self.new }
     {
-        if self.heard.reserve(1).is_err() {
-            self.is_telling = false;
+        let is_to_fail = self.receives.next();
+        let is_recorded = self.heard.reserve(1).is_ok();
+        if is_to_fail || !is_recorded {
+            if is_recorded {
+                push_within(&mut self.heard, Heard::Failed);
+            } else {
+                self.is_telling = false;
+            }
             self.faults = self.faults.saturating_add(1);
             self.failures_in_a_row = self.failures_in_a_row.saturating_add(1);
             return Got::Failed;
@@ -122,14 +146,19 @@ impl Wire for MemWire {
         ensures faults { Counts self.old.faults self.new.faults (IsErr result) }
         ensures row { self.new.failures_in_a_row ≡ self.old.failures_in_a_row }
         ensures end { has_ended self.new ≡ has_ended self.old }
-        ensures state { self.new ≡ after_send self.old to bytes.now result }
+        ensures plan { IsTrue (fails_next self.old.sends) → IsErr result }
+        ensures state { SendsNext to bytes.now self.old result self.new }
     {
-        if push_sent(self.alloc, &mut self.sent, to, bytes).is_err() {
+        let done = !self.sends.next();
+        let is_recorded = push_sent(self.alloc, &mut self.sent, to, bytes, done).is_ok();
+        if !is_recorded {
             self.is_telling = false;
-            self.faults = self.faults.saturating_add(1);
-            return Err(Failed);
         }
-        Ok(())
+        if done && is_recorded {
+            return Ok(());
+        }
+        self.faults = self.faults.saturating_add(1);
+        Err(Failed)
     }
 }
 
@@ -165,15 +194,17 @@ fn fill_front(buffer: &mut [u8; 4096], octets: &[u8])
     buffer[..octets.len()].copy_from_slice(octets);
 }
 
-/// Records a datagram that the wire took.
-fn push_sent(alloc: Global, sent: &mut Vec<Sent>, to: Peer, bytes: &[u8]) -> Result<(), NoMemory>
-    ensures ok { OnOk result (sent.new.items ≡ sent.old.items ++ record { to = to; octets = bytes.now; done = true } ∷ []) }
+/// Records a datagram that was handed in, and whether the wire took it.
+fn push_sent(
+    alloc: Global,
+    sent: &mut Vec<Sent>,
+    to: Peer,
+    bytes: &[u8],
+    done: bool,
+) -> Result<(), NoMemory>
+    ensures ok { OnOk result (sent.new.items ≡ sent.old.items ++ record { to = to; octets = bytes.now; done = done } ∷ []) }
 {
     let octets = Octets::of(alloc, bytes)?;
-    sent.push(Sent {
-        to,
-        octets,
-        done: true,
-    })?;
+    sent.push(Sent { to, octets, done })?;
     Ok(())
 }
