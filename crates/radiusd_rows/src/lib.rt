@@ -4,6 +4,8 @@
 #![tactic(auto)]
 
 #[cfg(test)]
+mod failing;
+#[cfg(test)]
 mod run;
 #[cfg(test)]
 mod serving;

@@ -11,6 +11,9 @@ use std::sync::Wait;
 /// The kits of memory.
 pub type MemKit = Kit<MemWire, MemShelf, ListClock, ListLuck, OpenGate>;
 
+/// The crew that hands them out.
+pub type Memories = MemCrew<MemWire, MemShelf, ListClock, ListLuck, OpenGate>;
+
 /// What a run left: its exit status, what it printed, and its kits.
 #[derive(Drop)]
 pub struct Run {
@@ -56,23 +59,24 @@ pub fn hub_of(alloc: Global) -> Result<Hub<MemShelf>, NoMemory> {
     Hub::new(alloc, MemShelf::new(alloc, Vec::new(alloc)), path)
 }
 
-/// A crew with one kit, whose wire gives these datagrams from one source, and whose clock says 1000.
-fn crew_of(
-    alloc: Global,
-    from: Peer,
-    datagrams: &[&[u8]],
-) -> Result<MemCrew<MemWire, MemShelf, ListClock, ListLuck, OpenGate>, NoMemory> {
+/// A script of these datagrams from one source, with a quiet while behind each.
+pub fn script_of(alloc: Global, from: Peer, datagrams: &[&[u8]]) -> Result<Vec<Cue>, NoMemory> {
     let mut script = Vec::new(alloc);
     for datagram in datagrams {
         script.push(Cue::Datagram(Octets::of(alloc, datagram)?, from))?;
         script.push(Cue::Quiet)?;
     }
+    Ok(script)
+}
+
+/// A crew with one kit of this wire, whose clock says 1000.
+pub fn crew_of(alloc: Global, wire: MemWire) -> Result<Memories, NoMemory> {
     let mut moments = Vec::new(alloc);
     moments.push(1000)?;
     let mut crew = MemCrew::new(alloc, Vec::new(alloc));
     crew.add(Kit {
         listener: 0,
-        wire: MemWire::new(alloc, script, Vec::new(alloc), Vec::new(alloc)),
+        wire,
         control: None,
         shelf: MemShelf::new(alloc, Vec::new(alloc)),
         clock: ListClock::new(moments),
@@ -82,7 +86,33 @@ fn crew_of(
     Ok(crew)
 }
 
-/// Runs the server with these words on a site in memory.
+/// Runs the server with these words on a site in memory, over this crew, hub and sink.
+pub fn run_over<R: Wait>(
+    rt: &R,
+    alloc: Global,
+    words: &[&str],
+    conf: &[u8],
+    crew: &mut Memories,
+    hub: &mut Hub<MemShelf>,
+    mut out: MemSink,
+) -> Result<Run, NoMemory> {
+    let words = words_of(alloc, words)?;
+    let mut files = files_of(alloc, conf)?;
+    let mut kits = Vec::new(alloc);
+    let status = radiusd(
+        rt,
+        alloc,
+        words.as_slice(),
+        &mut files,
+        crew,
+        &mut kits,
+        hub,
+        &mut out,
+    );
+    Ok(Run { status, out, kits })
+}
+
+/// Runs the server with these words on a site in memory, whose wire gives these datagrams from one source.
 pub fn run_with<R: Wait>(
     rt: &R,
     alloc: Global,
@@ -91,21 +121,10 @@ pub fn run_with<R: Wait>(
     from: Peer,
     datagrams: &[&[u8]],
 ) -> Result<Run, NoMemory> {
-    let words = words_of(alloc, words)?;
-    let mut files = files_of(alloc, conf)?;
-    let mut crew = crew_of(alloc, from, datagrams)?;
+    let script = script_of(alloc, from, datagrams)?;
+    let wire = MemWire::new(alloc, script, Vec::new(alloc), Vec::new(alloc));
+    let mut crew = crew_of(alloc, wire)?;
     let mut hub = hub_of(alloc)?;
-    let mut kits = Vec::new(alloc);
-    let mut out = MemSink::new(alloc, Vec::new(alloc));
-    let status = radiusd(
-        rt,
-        alloc,
-        words.as_slice(),
-        &mut files,
-        &mut crew,
-        &mut kits,
-        &mut hub,
-        &mut out,
-    );
-    Ok(Run { status, out, kits })
+    let out = MemSink::new(alloc, Vec::new(alloc));
+    run_over(rt, alloc, words, conf, &mut crew, &mut hub, out)
 }

@@ -7,10 +7,10 @@ use std::process::Abort;
 use std::sync::Wait;
 use std::test::Fail;
 
-const WORDS: &[&str] = &["radiusd", "-s", "-d", "site"];
+pub const WORDS: &[&str] = &["radiusd", "-s", "-d", "site"];
 
 /// 192.168.1.16.
-const NAS: Peer = Peer {
+pub const NAS: Peer = Peer {
     addr: 0xc0a8_0110,
     port: 1234,
 };
@@ -20,7 +20,7 @@ const STRANGER: Peer = Peer {
     port: 1234,
 };
 
-const ACCEPTING: &[u8] =
+pub const ACCEPTING: &[u8] =
     b"client nas {\n\tipaddr = 192.168.1.16\n\tsecret = xyzzy5461\n}\nserver default {\n\tlisten { type = auth }\n\tauthorize {\n\t\tupdate control { Auth-Type := Accept }\n\t\tok\n\t}\n}\n";
 
 const REJECTING: &[u8] =
@@ -49,10 +49,10 @@ const REJECT: &[u8] = &[
     0x35, 0xde, 0x3d, 0xb1,
 ];
 
-const LISTENING: &[u8] = b"listening default 0.0.0.0:1812 auth workers 1\n";
+pub const LISTENING: &[u8] = b"listening default 0.0.0.0:1812 auth workers 1\n";
 
 /// Whether a run printed the line of its listener and then these counts, with status 0.
-fn is_whole(run: &Run, counts: &[u8]) -> bool {
+pub fn is_whole(run: &Run, counts: &[u8]) -> bool {
     let printed = run.out.octets();
     run.status == 0
         && printed.len() >= LISTENING.len()
@@ -61,7 +61,7 @@ fn is_whole(run: &Run, counts: &[u8]) -> bool {
 }
 
 /// Whether the run's only send is this one.
-fn is_answered(run: &Run, to: Peer, octets: &[u8]) -> bool {
+pub fn is_answered(run: &Run, to: Peer, octets: &[u8]) -> bool {
     match run.sent() {
         [sent] => sent.to == to && sent.done && sent.octets.as_slice() == octets,
         _ => false,
@@ -130,5 +130,31 @@ fn a_repeat_is_run_again_for_now(rt: HostRuntime) -> Result<(), Fail> {
     let run = run_with(&rt, rt.alloc(), WORDS, ACCEPTING, NAS, &[REQUEST, REQUEST])?;
     assert_eq!(rt; run.sent().len(), 2);
     assert!(rt; is_whole(&run, b"requests 2 replies 2 reloads 0 refused 0\n"));
+    Ok(())
+}
+
+/// One server that takes them all, in order: of nine datagrams three are run.
+#[test]
+fn the_same_datagrams_in_one_run(rt: HostRuntime) -> Result<(), Fail> {
+    let run = run_with(
+        &rt,
+        rt.alloc(),
+        WORDS,
+        ACCEPTING,
+        NAS,
+        &[
+            b"",
+            SHORT,
+            b"\x01\x07\x00\x150123456789abcdef",
+            b"\x01\x07\x00\x130123456789abcdef",
+            b"\x01\x07\x00\x140123456789abcdef",
+            b"\x01\x07\x00\x140123456789abcdef\0\0\0\0\0",
+            b"\x01\x07\x00\x160123456789abcdef\x01\x01",
+            b"\x01\x07\x00\x160123456789abcdef\x01\x05",
+            b"\x01\x07\x00\x160123456789abcdef\x01\x02",
+        ],
+    )?;
+    assert_eq!(rt; run.sent().len(), 3);
+    assert!(rt; is_whole(&run, b"requests 9 replies 3 reloads 0 refused 0\n"));
     Ok(())
 }
