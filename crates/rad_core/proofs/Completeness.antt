@@ -1,8 +1,7 @@
 -- A legal history in which each fresh start has its finish answers each authentic arrival once.
-use Rattle.std.proofs.Common.{ℕ, ◌≡◌, ◌==◌, ◌⊎◌, List, [], ◌∷◌, Bool, true, false, cond, Option, Some, None, inl, inr, refl, ap, sym, ◌∙◌, subst}
+use Rattle.std.proofs.Common.{ℕ, ◌≡◌, ◌⊎◌, List, [], ◌∷◌, true, false, cond, Option, Some, inl, inr, refl, ap, sym, subst}
 use Rattle.std.specs.List.{AllByRecursion}
 use Rattle.rad_wire.specs.Authentic.{IsAuthentic}
-use Rattle.rad_wire.specs.declared.cause.DropCause.{DropCause}
 use Rattle.rad_wire.proofs.Datagrams.{cause_without_authentic}
 use Rattle.rad_core.specs.declared.arrival.Arrived.{Arrived}
 use Rattle.rad_core.specs.declared.ending.Ending.{Ending}

@@ -8,7 +8,6 @@ use Rattle.rad_core.specs.declared.arrival.Arrived.{Arrived}
 use Rattle.rad_core.specs.declared.ending.Ending.{Ending}
 use Rattle.rad_core.specs.declared.ending.Ending.TheVariants.{Sent, Withheld, OutOfMemory}
 use Rattle.rad_core.specs.declared.outcome.Outcome.{Outcome}
-use Rattle.rad_core.specs.declared.started.StartAnswer.{StartAnswer}
 use Rattle.rad_core.specs.declared.started.StartAnswer.TheVariants.{Dropped, Fresh, NoRoom}
 use Rattle.rad_core.specs.declared.started.Ticket.{Ticket}
 use Rattle.rad_core.specs.Policy.{Meaning}

@@ -7,7 +7,7 @@ use Rattle.rad_core.specs.declared.started.StartAnswer.{StartAnswer}
 use Rattle.rad_core.specs.declared.started.StartAnswer.TheVariants.{Dropped, Fresh, NoRoom}
 use Rattle.rad_core.specs.Policy.{Meaning}
 use Rattle.rad_core.specs.State.{ServerState}
-use Rattle.rad_core.specs.Entry.{Entry, Start, Finish, Install, Look, Stop}
+use Rattle.rad_core.specs.Entry.{Start, Finish, Install, Look, Stop}
 use Rattle.rad_core.specs.Step.{IsTaken}
 use Rattle.rad_core.specs.Worker.{Placed, At, ending_of, replies_of}
 

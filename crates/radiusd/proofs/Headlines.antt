@@ -1,8 +1,7 @@
 -- The headline of a run, from what its parts left.
-use Rattle.std.proofs.Common.{ℕ, ◌≡◌, ◌⊎◌, ◌≤◌, ◌++◌, List, [], ◌∷◌, Bool, true, Option, Some, None, Ok, length, map, inl, inr, refl, ap, sym, ◌∙◌, subst, append-nil, append_assoc, arith}
+use Rattle.std.proofs.Common.{ℕ, ◌≡◌, ◌⊎◌, ◌≤◌, ◌++◌, List, [], ◌∷◌, Bool, true, Option, None, Ok, length, inl, inr, refl, ap, sym, ◌∙◌, subst, append-nil, append_assoc, arith}
 use Rattle.std.specs.List.{AllByRecursion}
 use Rattle.rad_edge.specs.declared.crew.Kit.{Kit}
-use Rattle.rad_edge.specs.declared.listen.Listen.{Listen}
 use Rattle.rad_edge.specs.Crew.{Handed}
 use Rattle.rad_edge.specs.Telling.{Tells}
 use Rattle.rad_core.specs.declared.installed.Installed.{Installed}
@@ -10,7 +9,6 @@ use Rattle.rad_core.specs.State.{ServerState, opening}
 use Rattle.rad_core.specs.Entry.{Entry, Install}
 use Rattle.rad_core.specs.Step.{after, IsLegal}
 use Rattle.rad_core.specs.Worker.{Placed, placed, of_worker, served, IsClosed, IsOwn}
-use Rattle.rad_core.specs.Completeness.{EachHasOneReply}
 use Rattle.rad_core.proofs.Histories.{run-append, IsLegal-append, of_worker-own}
 use Rattle.rad_core.proofs.Completeness.{may_all, may_own, each_one_reply}
 use Rattle.radiusd.specs.declared.fault.BuildFault.{BuildFault}
@@ -21,9 +19,9 @@ use Rattle.radiusd.specs.History.{state_after, listener_of, Installs, TriesInsta
 use Rattle.radiusd.specs.Told.{KitTells, Told, GrowsBy, IsAt}
 use Rattle.radiusd.specs.Leaving.{Leaves, IsAtEnd}
 use Rattle.radiusd.specs.Printing.{Prints}
-use Rattle.radiusd.specs.Course.{Course, Serving, Takes, BeginsWithInstall, IsExcused, Call, call_of, calls_of, lines_of}
+use Rattle.radiusd.specs.Course.{Course, Serving, Takes, BeginsWithInstall, IsExcused, Call, call_of, lines_of}
 use Rattle.radiusd.specs.Serving.{GoesOn}
-use Rattle.radiusd.specs.Headline.{Headline, IsNamed, entries_of}
+use Rattle.radiusd.specs.Headline.{Headline, IsNamed}
 
 -- what is legal after the state is legal after the history
 legal_all : (before now added : List (Entry Site BuildFault)) → IsLegal site_meaning opening before → now ≡ before ++ added → IsLegal site_meaning (state_after before) added → IsLegal site_meaning opening now

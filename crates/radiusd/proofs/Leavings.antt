@@ -1,5 +1,5 @@
 -- How a worker leaves, after what it has served before.
-use Rattle.std.proofs.Common.{◌≡◌, ◌++◌, List, [], ◌∷◌, Option, Some, None, ap, sym, ◌∙◌, append_assoc, IsTrue}
+use Rattle.std.proofs.Common.{◌++◌, List, [], ◌∷◌, Option, Some, None, ap, sym, ◌∙◌, append_assoc, IsTrue}
 use Rattle.rad_edge.specs.declared.wire.Heard.TheVariants as heard
 use Rattle.rad_edge.specs.Telling.{Tells}
 use Rattle.rad_core.specs.Entry.{Look, Stop}
@@ -9,7 +9,7 @@ use Rattle.radiusd.specs.declared.left.Left.{Left}
 use Rattle.radiusd.specs.declared.left.Left.TheVariants as left
 use Rattle.radiusd.specs.Site.{Site}
 use Rattle.radiusd.specs.Told.{KitTells, Hears}
-use Rattle.radiusd.specs.Leaving.{Leaves, HearsLast, SeesStop, StopsLast}
+use Rattle.radiusd.specs.Leaving.{Leaves, HearsLast}
 use Rattle.radiusd.proofs.Telling.{Tells-trans, HearsLast-join, All-append}
 
 both_serve : (xs ys : List (Placed Site BuildFault)) → OnlyServes xs → OnlyServes ys → OnlyServes (xs ++ ys)

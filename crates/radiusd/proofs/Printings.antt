@@ -1,5 +1,5 @@
 -- Printing several lines, one after another.
-use Rattle.std.proofs.Common.{ℕ, ◌≡◌, ◌≤◌, ◌+◌, ◌-◌, ◌^◌, ◌⊎◌, ◌++◌, min, take, drop, List, [], Option, Result, Ok, Err, IsErr, inl, inr, refl, ap, sym, ◌∙◌, append-nil, append_assoc, arith}
+use Rattle.std.proofs.Common.{ℕ, ◌≡◌, ◌≤◌, ◌⊎◌, ◌++◌, take, drop, List, [], Option, Result, Ok, Err, IsErr, inl, inr, refl, ap, sym, ◌∙◌, append-nil, append_assoc, arith}
 use Rattle.std.proofs.lemmas.List.{take-append-drop}
 use Rattle.std.proofs.Math.Seq.{drop-length}
 use Rattle.rad_edge.specs.declared.fault.Failed.{Failed}

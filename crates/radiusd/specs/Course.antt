@@ -1,7 +1,6 @@
 -- How far a run of the server came, and what it prints, adds and answers there. This project's own, after FreeRADIUS'
 -- radiusd(8).
 use Rattle.std.specs.Prelude.{ℕ, ◌≡◌, ◌⊎◌, ◌==◌, ◌≤◌, ◌++◌, List, [], ◌∷◌, length, map, Option, Some, None, Ok, Err, if◌then◌else◌}
-use Rattle.std.specs.List.{AllByRecursion}
 use Rattle.rad_edge.specs.declared.crew.Kit.{Kit}
 use Rattle.rad_edge.specs.declared.listen.Listen.{Listen}
 use Rattle.rad_edge.specs.Crew.{Handed}

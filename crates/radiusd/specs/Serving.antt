@@ -9,7 +9,7 @@ use Rattle.rad_edge.specs.Wire.{WireTold}
 use Rattle.rad_core.specs.declared.arrival.Arrived.{Arrived}
 use Rattle.rad_core.specs.Entry.{Entry}
 use Rattle.rad_core.specs.Step.{IsLegal}
-use Rattle.rad_core.specs.Worker.{Answer, placed, of_worker, IsOwn}
+use Rattle.rad_core.specs.Worker.{Answer, placed, IsOwn}
 use Rattle.radiusd.specs.declared.fault.BuildFault.{BuildFault}
 use Rattle.radiusd.specs.declared.left.Left.{Left}
 use Rattle.radiusd.specs.declared.left.Left.TheVariants as leaving

@@ -1,4 +1,3 @@
-use Rattle.std.proofs.Common.{refl}
 use Rattle.rad_edge.specs.Telling.{Rose}
 use Rattle.radiusd.proofs.Printings.{writes_front}
 use Rattle.radiusd.proofs.printing.say.Goals as goal

@@ -1,4 +1,4 @@
-use Rattle.std.proofs.Common.{ℕ, List, [], ◌∷◌, Some, None, take, subst, sym, refl, arith}
+use Rattle.std.proofs.Common.{ℕ, List, [], Some, None, take, subst, sym, refl, arith}
 use Rattle.rad_edge.specs.declared.crew.Kit.{Kit}
 use Rattle.rad_edge.specs.declared.wire.Heard.TheVariants as heard
 use Rattle.rad_core.specs.Entry.{Entry}

@@ -1,19 +1,17 @@
-use Rattle.std.proofs.Common.{ℕ, ◌≡◌, ◌⊎◌, ◌++◌, List, [], ◌∷◌, Option, Some, None, true, length, drop, refl, inl, inr, sym, ap, ◌∙◌, subst, append-nil}
+use Rattle.std.proofs.Common.{◌≡◌, ◌++◌, List, [], ◌∷◌, Some, None, true, length, drop, refl, inr, sym, ap, ◌∙◌, subst, append-nil}
 use Rattle.std.proofs.Math.Seq.{drop-append_seam}
 use Rattle.rad_edge.specs.declared.crew.Kit.{Kit}
 use Rattle.rad_edge.specs.declared.listen.Listen.{Listen}
-use Rattle.rad_edge.specs.declared.fault.KitFault.{KitFault}
 use Rattle.rad_edge.specs.declared.fault.KitFault.TheVariants as fault
 use Rattle.rad_edge.specs.Crew.{Handed}
-use Rattle.rad_edge.specs.Telling.{Tells, Rose}
+use Rattle.rad_edge.specs.Telling.{Tells}
 use Rattle.rad_core.specs.Entry.{Entry}
 use Rattle.radiusd.specs.declared.fault.BuildFault.{BuildFault}
 use Rattle.radiusd.specs.declared.status.Status.TheVariants as status
 use Rattle.radiusd.specs.Site.{Site}
 use Rattle.radiusd.specs.Statuses.{number_of}
 use Rattle.radiusd.specs.Told.{KitTells, GrowsBy}
-use Rattle.radiusd.specs.Course.{Serving, IsExcused, Call, lines_of, closing_lines}
-use Rattle.radiusd.specs.History.{listener_of}
+use Rattle.radiusd.specs.Course.{Serving, IsExcused, Call, closing_lines}
 use Rattle.radiusd.specs.Lines.{listening_line, socket_fault_line}
 use Rattle.radiusd.specs.Printing.{Prints, PrintsWhole, IsCutShort}
 use Rattle.radiusd.specs.Headline.{Headline}

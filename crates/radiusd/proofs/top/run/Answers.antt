@@ -1,9 +1,9 @@
-use Rattle.std.proofs.Common.{ℕ, ◌≡◌, ◌⊎◌, ◌++◌, List, [], Err, map, string_bytes, refl, inl, inr, sym, ap, ◌∙◌, subst, append-nil}
+use Rattle.std.proofs.Common.{◌≡◌, ◌⊎◌, List, [], Err, map, string_bytes, refl, inl, inr, sym, ap, subst, append-nil}
 use Rattle.rad_edge.specs.declared.crew.Kit.{Kit}
 use Rattle.rad_edge.specs.Telling.{Rose}
 use Rattle.radiusd.specs.declared.status.Status.TheVariants as status
 use Rattle.radiusd.specs.Told.{KitTells, GrowsBy}
-use Rattle.radiusd.specs.Course.{Course, Misworded, Unbuilt, Serving, IsCourse, IsExcused, fault_line}
+use Rattle.radiusd.specs.Course.{Course, Misworded, Unbuilt, Serving, IsExcused, fault_line}
 use Rattle.radiusd.specs.Lines.{usage_line}
 use Rattle.radiusd.specs.Headline.{Headline}
 use Rattle.radiusd.specs.Statuses.{number_of, NothingFailed}
