@@ -1,5 +1,5 @@
 -- What a history says of one worker. This project's own.
-use Rattle.std.specs.Prelude.{ℕ, ◌≡◌, ◌==◌, ◌+◌, length, List, [], ◌∷◌, ◌++◌, filter, if◌then◌else◌, Bool, true, false, IsTrue, Option, Some, None}
+use Rattle.std.specs.Prelude.{ℕ, ◌≡◌, ◌==◌, ◌+◌, length, List, [], ◌∷◌, ◌++◌, filter, if◌then◌else◌, Bool, true, false, not, IsTrue, Option, Some, None}
 use Rattle.std.specs.List.{AllByRecursion}
 use Rattle.rad_edge.specs.declared.listen.Peer.{Peer}
 use Rattle.rad_core.specs.declared.arrival.Arrived.{Arrived}
@@ -136,15 +136,15 @@ HaveOutcomes meaning words (At before (Install worker load listeners answer) ∷
 HaveOutcomes meaning words (At before (Look worker seen) ∷ more) = HaveOutcomes meaning words more
 HaveOutcomes meaning words (At before (Stop worker) ∷ more) = HaveOutcomes meaning words more
 
--- What a worker adds while it serves: starts, finishes and looks.
+-- What a worker adds while it serves: starts, finishes, and looks that show no stop.
 abbrev pub is_service : {P F : Type 0} → Placed P F → Bool
 is_service (At before (Start arrival answer)) = true
 is_service (At before (Finish worker place ending)) = true
 is_service (At before (Install worker load listeners answer)) = false
-is_service (At before (Look worker seen)) = true
+is_service (At before (Look worker seen)) = not seen.stopped
 is_service (At before (Stop worker)) = false
 
--- The worker has neither loaded a generation nor stopped the server.
+-- The worker has neither loaded a generation nor stopped the server, and has seen no stop.
 abbrev pub OnlyServes : {P F : Type 0} → List (Placed P F) → Type 0
 OnlyServes mine = AllByRecursion (λ entry. IsTrue (is_service entry)) mine
 

@@ -1,5 +1,5 @@
 -- How a worker leaves, after what it has served before.
-use Rattle.std.proofs.Common.{◌++◌, List, [], ◌∷◌, Option, Some, None, ap, sym, ◌∙◌, append_assoc, IsTrue}
+use Rattle.std.proofs.Common.{◌++◌, List, [], ◌∷◌, Option, Some, None, ap, sym, ◌∙◌, append_assoc, append-nil, IsTrue}
 use Rattle.rad_edge.specs.declared.wire.Heard.TheVariants as heard
 use Rattle.rad_edge.specs.Telling.{Tells}
 use Rattle.rad_core.specs.Entry.{Look, Stop}
@@ -8,40 +8,52 @@ use Rattle.radiusd.specs.declared.fault.BuildFault.{BuildFault}
 use Rattle.radiusd.specs.declared.left.Left.{Left}
 use Rattle.radiusd.specs.declared.left.Left.TheVariants as left
 use Rattle.radiusd.specs.Site.{Site}
-use Rattle.radiusd.specs.Told.{KitTells, Hears}
-use Rattle.radiusd.specs.Leaving.{Leaves, HearsLast}
-use Rattle.radiusd.proofs.Telling.{Tells-trans, HearsLast-join, All-append}
+use Rattle.radiusd.specs.Told.{KitTells}
+use Rattle.radiusd.specs.Leaving.{Leaves, HearsLast, StaysOpen}
+use Rattle.radiusd.proofs.Telling.{Tells-trans, Tells-same, HearsLast-join, StaysOpen-join, All-append}
 
 both_serve : (xs ys : List (Placed Site BuildFault)) → OnlyServes xs → OnlyServes ys → OnlyServes (xs ++ ys)
 both_serve xs ys first second = All-append (λ (entry : Placed Site BuildFault). IsTrue (is_service entry)) xs ys first second
 
-pub Leaves-join : {W K U : Type 0} (tells : KitTells W K U) (way : Option Left) (a b c : W) (xs ys : List (Placed Site BuildFault)) → OnlyServes xs → Tells (tells.wire a) (tells.wire b) (Hears xs) → Leaves tells way b c ys → Leaves tells way a c (xs ++ ys)
-Leaves-join tells None a b c xs ys serves hears leaves = both_serve xs ys serves leaves
-Leaves-join tells (Some left.Ended) a b c xs ys serves hears leaves = (
-  both_serve xs ys serves leaves.0,
-  leaves.1,
-  Tells-trans (HearsLast heard.Ended) (tells.wire a) (tells.wire b) (tells.wire c) (HearsLast-join heard.Ended xs) hears leaves.2,
-)
-Leaves-join tells (Some left.Stopped) a b c xs ys serves hears leaves = (
-  both_serve xs ys serves leaves.0,
-  record {
-    front = xs ++ leaves.1.front;
-    before = leaves.1.before;
-    worker = leaves.1.worker;
-    seen = leaves.1.seen;
-    last = ap (λ l. xs ++ l) leaves.1.last ∙ sym (append_assoc xs leaves.1.front (At leaves.1.before (Look leaves.1.worker leaves.1.seen) ∷ []));
-    shows = leaves.1.shows;
-  },
-  Tells-trans (HearsLast heard.Quiet) (tells.wire a) (tells.wire b) (tells.wire c) (HearsLast-join heard.Quiet xs) hears leaves.2,
-)
-Leaves-join tells (Some left.Deaf) a b c xs ys serves hears leaves = (
-  record {
-    front = xs ++ leaves.0.front;
-    before = leaves.0.before;
-    worker = leaves.0.worker;
-    last = ap (λ l. xs ++ l) leaves.0.last ∙ sym (append_assoc xs leaves.0.front (At leaves.0.before (Stop leaves.0.worker) ∷ []));
-    only = both_serve xs leaves.0.front serves leaves.0.only;
-  },
-  leaves.1,
-)
-Leaves-join tells (Some left.NoMemory) a b c xs ys serves hears leaves = both_serve xs ys serves leaves
+-- a wire that wasn't asked
+pub unasked : {W K U : Type 0} (tells : KitTells W K U) (wire : W) → Tells (tells.wire wire) (tells.wire wire) StaysOpen
+unasked tells wire = Tells-same StaysOpen (tells.wire wire) (λ x. ([], sym (append-nil x.heard), tt))
+
+module _ {W K U : Type 0} (tells : KitTells W K U) (a b c : W) (xs ys : List (Placed Site BuildFault)) where
+  pub Leaves-join : (way : Option Left) → Leaves tells None a b xs → Leaves tells way b c ys → Leaves tells way a c (xs ++ ys)
+  Leaves-join None first leaves = (
+    both_serve xs ys first.0 leaves.0,
+    Tells-trans StaysOpen (tells.wire a) (tells.wire b) (tells.wire c) StaysOpen-join first.1 leaves.1,
+  )
+  Leaves-join (Some left.Ended) first leaves = (
+    both_serve xs ys first.0 leaves.0,
+    leaves.1,
+    Tells-trans (HearsLast heard.Ended) (tells.wire a) (tells.wire b) (tells.wire c) (HearsLast-join heard.Ended) first.1 leaves.2,
+  )
+  Leaves-join (Some left.Stopped) first leaves = (
+    record {
+      front = xs ++ leaves.0.front;
+      before = leaves.0.before;
+      worker = leaves.0.worker;
+      seen = leaves.0.seen;
+      last = ap (λ l. xs ++ l) leaves.0.last ∙ sym (append_assoc xs leaves.0.front (At leaves.0.before (Look leaves.0.worker leaves.0.seen) ∷ []));
+      shows = leaves.0.shows;
+      only = both_serve xs leaves.0.front first.0 leaves.0.only;
+    },
+    Tells-trans (HearsLast heard.Quiet) (tells.wire a) (tells.wire b) (tells.wire c) (HearsLast-join heard.Quiet) first.1 leaves.1,
+  )
+  Leaves-join (Some left.Deaf) first leaves = (
+    record {
+      front = xs ++ leaves.0.front;
+      before = leaves.0.before;
+      worker = leaves.0.worker;
+      last = ap (λ l. xs ++ l) leaves.0.last ∙ sym (append_assoc xs leaves.0.front (At leaves.0.before (Stop leaves.0.worker) ∷ []));
+      only = both_serve xs leaves.0.front first.0 leaves.0.only;
+    },
+    leaves.1,
+    Tells-trans StaysOpen (tells.wire a) (tells.wire b) (tells.wire c) StaysOpen-join first.1 leaves.2,
+  )
+  Leaves-join (Some left.NoMemory) first leaves = (
+    both_serve xs ys first.0 leaves.0,
+    Tells-trans StaysOpen (tells.wire a) (tells.wire b) (tells.wire c) StaysOpen-join first.1 leaves.1,
+  )

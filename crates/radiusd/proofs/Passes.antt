@@ -23,7 +23,7 @@ use Rattle.radiusd.specs.Site.{Site}
 use Rattle.radiusd.specs.Meaning.{site_meaning}
 use Rattle.radiusd.specs.History.{state_after, Adds}
 use Rattle.radiusd.specs.Told.{Told, KitTells, IsAt, Hears, Sends, GrowsBy, events, datagram_of}
-use Rattle.radiusd.specs.Leaving.{Leaves}
+use Rattle.radiusd.specs.Leaving.{Leaves, StaysOpen, IsOpen}
 use Rattle.radiusd.specs.Serving.{Serves, GoesOn, arrival_at}
 use Rattle.radiusd.proofs.Telling.{Tells-trans, Tells-same, Tells-weaker, All-append}
 use Rattle.radiusd.proofs.Tolds.{Told-same, Told-trans}
@@ -32,6 +32,10 @@ use Rattle.radiusd.proofs.Leavings.{Leaves-join}
 -- one answer more was heard, and nothing was sent
 abbrev pub OnlyHears : Heard → WireTold → WireTold → Type 0
 OnlyHears answer before now = (now.heard ≡ before.heard ++ answer ∷ []) × (now.sent ≡ before.sent)
+
+-- an answer that isn't the end leaves the wire open
+pub open_after : {W K U : Type 0} (tells : KitTells W K U) (a b : W) (answer : Heard) → IsOpen answer → Tells (tells.wire a) (tells.wire b) (OnlyHears answer) → Tells (tells.wire a) (tells.wire b) StaysOpen
+open_after tells a b answer is_open = Tells-weaker StaysOpen (tells.wire a) (tells.wire b) (λ x y h. (answer ∷ [], h.0, (is_open, tt)))
 
 -- the kit is as it was but for its wire
 pub record SameButWire {W S K U G : Type 0} (old new : Kit W S K U G) : Type 0 where
@@ -174,7 +178,7 @@ module _ {W S K U G : Type 0} (tells : KitTells W K U) (worker : ℕ) (listen : 
           outcomes = passes.turn.outcome;
           shelf = serves.shelf ∙ same.shelf;
         };
-        leaves = passes.turn.service;
+        leaves = (passes.turn.service, Tells-trans StaysOpen (tells.wire old.wire) (tells.wire mid.wire) (tells.wire new.wire) (λ x y z h s. (heard.Datagram octets from ∷ [], s.0 ∙ h.0, (tt, tt))) wire serves.wire);
         stop = λ is. cc;
       }
 
@@ -196,6 +200,6 @@ module _ {W S K U G : Type 0} (tells : KitTells W K U) (worker : ℕ) (listen : 
         told = subst (λ (ps : List (Placed Site BuildFault)). Told tells worker listen a c ps) all
             (Told-trans tells worker listen a b c xs ys first.told second.told);
         leaves = subst (λ (ps : List (Placed Site BuildFault)). Leaves tells left a.wire c.wire ps) all
-            (Leaves-join tells left a.wire b.wire c.wire xs ys first.leaves first.told.served_in_order second.leaves);
+            (Leaves-join tells a.wire b.wire c.wire xs ys left first.leaves second.leaves);
         stop = second.stop;
       }

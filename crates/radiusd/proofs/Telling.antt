@@ -12,7 +12,7 @@ use Rattle.rad_core.proofs.Histories.{asked-append}
 use Rattle.radiusd.specs.declared.fault.BuildFault.{BuildFault}
 use Rattle.radiusd.specs.Site.{Site}
 use Rattle.radiusd.specs.Told.{datagram_of, events, taken, answer_of, Hears, Sends, GrowsBy, Datagram}
-use Rattle.radiusd.specs.Leaving.{HearsLast}
+use Rattle.radiusd.specs.Leaving.{HearsLast, StaysOpen, IsOpen}
 
 -- from one call to the next
 pub Tells-trans : {T : Type 0} {R S : T → T → Type 0} (Q : T → T → Type 0) (a b c : Option T) → ((x y z : T) → R x y → S y z → Q x z) → Tells a b R → Tells b c S → Tells a c Q
@@ -51,13 +51,6 @@ Hears-join mine more x y z first second = (
       ∙ ap (λ l. taken mine ++ l) second.2 ∙ sym (taken-append mine more),
 )
 
-pub HearsLast-join : (answer : Heard) (mine : List (Placed Site BuildFault)) (x y z : WireTold) → Hears mine x y → HearsLast answer y z → HearsLast answer x z
-HearsLast-join answer mine x y z first second = (
-  first.0 ++ second.0,
-  grown x.heard y.heard z.heard first.0 (second.0 ++ answer ∷ []) first.1 second.1
-      ∙ ap (λ l. x.heard ++ l) (sym (append_assoc first.0 second.0 (answer ∷ []))),
-)
-
 pub Sends-join : (arrivals bs : List Answer) (x y z : WireTold) → Sends arrivals x y → Sends bs y z → Sends (arrivals ++ bs) x z
 Sends-join arrivals bs x y z first second = (
   first.0 ++ second.0,
@@ -71,3 +64,18 @@ GrowsBy-join arrivals bs x y z first second = grown x y z arrivals bs first seco
 pub All-append : {X : Type 0} (P : X → Type 0) (xs ys : List X) → AllByRecursion P xs → AllByRecursion P ys → AllByRecursion P (xs ++ ys)
 All-append P [] ys all more = more
 All-append P (x ∷ xs) ys all more = (all.0, All-append P xs ys all.1 more)
+
+pub StaysOpen-join : (x y z : WireTold) → StaysOpen x y → StaysOpen y z → StaysOpen x z
+StaysOpen-join x y z first second = (
+  first.0 ++ second.0,
+  grown x.heard y.heard z.heard first.0 second.0 first.1 second.1,
+  All-append IsOpen first.0 second.0 first.2 second.2,
+)
+
+pub HearsLast-join : (answer : Heard) (x y z : WireTold) → StaysOpen x y → HearsLast answer y z → HearsLast answer x z
+HearsLast-join answer x y z first second = (
+  first.0 ++ second.0,
+  grown x.heard y.heard z.heard first.0 (second.0 ++ answer ∷ []) first.1 second.1
+      ∙ ap (λ l. x.heard ++ l) (sym (append_assoc first.0 second.0 (answer ∷ []))),
+  All-append IsOpen first.0 second.0 first.2 second.2,
+)

@@ -1,5 +1,6 @@
 use Rattle.std.proofs.Common.{None, Some, refl, ◌∙◌, ◌≡◌, ◌<◌, arith}
 use Rattle.radiusd.specs.Told.{KitTells}
+use Rattle.radiusd.proofs.Leavings.{unasked}
 use Rattle.radiusd.proofs.Passes.{goes_on_still, GoesOn-trans}
 use Rattle.radiusd.proofs.serving.serve.Goals as goal
 
@@ -9,7 +10,7 @@ loop-init g c =
     let counted : 0 ≡ g.W.Wire.failures_in_a_row c.args.kit.now.wire = cc in
     let few : 0 < 100 = omega arith in
     record {
-      goes_on = goes_on_still tells c.args.worker c.args.listen.now c.args.hub.now.history c.args.kit.now None tt (λ e. cc);
+      goes_on = goes_on_still tells c.args.worker c.args.listen.now c.args.hub.now.history c.args.kit.now None (tt, unasked tells c.args.kit.now.wire) (λ e. cc);
       counted = counted;
       few = few;
       log = refl;

@@ -16,6 +16,7 @@ use Rattle.radiusd.specs.Lines.{listening_line, socket_fault_line}
 use Rattle.radiusd.specs.Printing.{Prints, PrintsWhole, IsCutShort}
 use Rattle.radiusd.specs.Headline.{Headline}
 use Rattle.radiusd.proofs.Telling.{Tells-same}
+use Rattle.radiusd.proofs.Leavings.{unasked}
 use Rattle.radiusd.proofs.Passes.{goes_on_still}
 use Rattle.radiusd.proofs.Printings.{Prints-nothing, Prints-weaker, Prints-behind, unfinished, finished, unserved, cut_unfinished, cut_followed, excused_since}
 use Rattle.radiusd.proofs.Headlines.{headline_without_kit, headline_with_kit, tried_install}
@@ -74,7 +75,7 @@ returns-in-Err-say_listening-clause-headline g c =
     subst (λ (kits : List (Kit g.row.W.Denot g.row.S.Denot g.row.K.Denot g.row.U.Denot g.row.G.Denot)). Headline tells (Serving site) (number_of ended) old new c.args.hub.now.log c.install.new.hub.log out printed before now c.args.hub.now.history c.install.new.hub.history kits) (sym (c.push_reserved.ensures.items ∙ ap (λ kits. kits ++ kit ∷ []) (c.reserve.ensures.items ∙ c.requires)))
     (headline_with_kit tells (number_of ended) old new c.args.hub.now.log c.install.new.hub.log out printed before now site c.args.hub.now.history c.install.new.hub.history c.install.new.hub.history handed kit None c.length-from.ensures.legal c.in-Ok.ensures.installed.installs c.in-Ok-kit.ensures.told
     (ap (λ (l : Listen). let call : Call = record { worker = 0; listen = l; control = None } in call) is_listener)
-    (goes_on_still tells 0 c.in-Ok.listen c.install.new.hub.history kit None tt (λ e. cc))
+    (goes_on_still tells 0 c.in-Ok.listen c.install.new.hub.history kit None (tt, unasked tells kit.wire) (λ e. cc))
     (λ e. absurd (cut_unfinished out printed before now ended (listening_line site.server site.at) cut e)) c.install.ensures.log
     (λ added grows. cut_followed out printed before now ended (listening_line site.server site.at) (closing_lines (number_of ended) added) cut))
 
