@@ -22,7 +22,7 @@ front_is_spelled (kind ∷ count ∷ rest) (suc (suc n)) e low high =
     ap (λ (c : ℕ). kind ∷ c ∷ take n rest) counted
 
 pub is_split : (octets : List ℕ) (size : ℕ) → size ≡ get_or octets 1 0 → size < 256 → 2 ≤ size → size ≤ length octets
-    → IsSplit octets (get_or octets 0 0) (take size octets) (drop size octets)
+    → IsSplit octets (get_or octets 0 0) (take size octets) (drop 2 (take size octets)) (drop size octets)
 is_split octets size e top low high =
     let front = front_is_spelled octets size e low high in
     record {
@@ -33,6 +33,7 @@ is_split octets size e top low high =
       };
       kind_is = refl;
       front_is = front;
+      value_is = refl;
     }
 
 -- the length of a front, as its second octet and as the octets there are

@@ -1,5 +1,5 @@
 -- How a User-Password is hidden: RFC 2865 section 5.2.
-use Rattle.std.specs.Prelude.{ℕ, zero, suc, ◌≡◌, ◌<◌, ◌≤◌, ◌-◌, ◌/◌, ◌%◌, ◌^◌, min, List, [], ◌∷◌, ◌++◌, length, take, drop, reverse, replicate, bit_xor}
+use Rattle.std.specs.Prelude.{ℕ, zero, suc, Bool, ◌==◌, ◌&&◌, nat_le, nat_lt, ◌≡◌, ◌<◌, ◌≤◌, ◌-◌, ◌/◌, ◌%◌, ◌^◌, min, List, [], ◌∷◌, ◌++◌, length, take, drop, reverse, replicate, bit_xor}
 use Rattle.md5.specs.Md5.{md5}
 use Rattle.rad_wire.specs.declared.hiding.HideFault.{HideFault}
 use Rattle.rad_wire.specs.declared.hiding.HideFault.TheVariants as hide_fault
@@ -67,6 +67,10 @@ pub record IsHiddenLength (count : ℕ) : Type 0 where
   pub some : 0 < count
   pub limit : count ≤ 128
   pub whole : count % 16 ≡ 0
+
+-- Whether so many octets can be a hidden password (RFC 2865 section 5.2).
+abbrev pub is_hidden_length : ℕ → Bool
+is_hidden_length count = nat_lt 0 count && nat_le count 128 && count % 16 == 0
 
 -- A count as an error carries it, in 32 bits (this project's own).
 abbrev pub carried : ℕ → ℕ

@@ -3,3 +3,7 @@ pub mod Front
 pub mod Authentic
 pub mod Octets
 pub mod Hiding
+pub mod Values
+pub mod Pairs
+pub mod Reply
+pub mod Appended

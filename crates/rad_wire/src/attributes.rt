@@ -5,18 +5,19 @@ ghost use Rattle.std.specs.Prelude.{List, ℕ, IfNone, IfSome};
 ghost use Rattle.rad_wire.specs.Packet.{Attribute, AreAttributes};
 ghost use Rattle.rad_wire.specs.Front.{IsFront, IsSplit};
 
-/// The attribute at the front of octets: its type, its octets from the type on, and what follows it.
+/// The attribute at the front of octets: its type, its octets from the type on, its value, and what follows it.
 #[derive(Clone, Copy, Debug)]
 pub(crate) struct Front<'a> {
     pub(crate) kind: u8,
     pub(crate) octets: &'a [u8],
+    pub(crate) value: &'a [u8],
     pub(crate) rest: &'a [u8],
 }
 
 /// Splits the first attribute off. None where no attribute stands in front: there are fewer than two octets, or the
 /// length is below 2 or runs past the end.
 pub(crate) fn split_front(octets: &[u8]) -> Option<Front>
-    ensures found { IfSome result (λ split. IsSplit octets.now split.kind split.octets.now split.rest.now) }
+    ensures found { IfSome result (λ split. IsSplit octets.now split.kind split.octets.now split.value.now split.rest.now) }
     ensures none { IfNone result ((attribute : Attribute) (rest : List ℕ) → ¬ IsFront attribute octets.now rest) }
 {
     if octets.len() < 2 {
@@ -28,7 +29,13 @@ pub(crate) fn split_front(octets: &[u8]) -> Option<Front>
     }
     let kind = octets[0];
     let (octets, rest) = octets.split_at(size);
-    Some(Front { kind, octets, rest })
+    let (_, value) = octets.split_at(2);
+    Some(Front {
+        kind,
+        octets,
+        value,
+        rest,
+    })
 }
 
 /// Whether the octets are attributes, one after another, and nothing else.

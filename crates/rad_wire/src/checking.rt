@@ -1,6 +1,6 @@
-ghost use Rattle.std.specs.Prelude.{◌≡◌, OnOk, IfOk, IfErr};
+ghost use Rattle.std.specs.Prelude.{◌≡◌, length, drop, OnOk, IfOk, IfErr};
 ghost use Rattle.std.specs.Option.{option_copied};
-ghost use Rattle.rad_wire.specs.Packet.{packet_of, code_of, id_of};
+ghost use Rattle.rad_wire.specs.Packet.{authenticator_of, packet_of, code_of, id_of};
 ghost use Rattle.rad_wire.specs.Authentic.{IsAuthentic, IsFirstCause};
 ghost use Rattle.rad_wire.specs.Octets.{IsChecked};
 
@@ -15,6 +15,28 @@ pub struct Checked<'a> {
     pub code: u8,
     pub id: u8,
     pub octets: &'a [u8],
+}
+
+impl Checked<'_> {
+    /// The Authenticator, 16 octets.
+    pub(crate) fn authenticator(&self) -> &[u8]
+        requires { IsChecked self.now }
+        ensures value { result.now ≡ authenticator_of self.now.octets.now }
+        ensures length { length result.now ≡ 16 }
+    {
+        let (_, after) = self.octets.split_at(4);
+        let (authenticator, _) = after.split_at(16);
+        authenticator
+    }
+
+    /// The octets of the attributes.
+    pub(crate) fn attributes(&self) -> &[u8]
+        requires { IsChecked self.now }
+        ensures { result.now ≡ drop 20 self.now.octets.now }
+    {
+        let (_, attributes) = self.octets.split_at(20);
+        attributes
+    }
 }
 
 /// The packet of a datagram from this client on a listener of this kind, or the first cause to drop it.

@@ -1,6 +1,6 @@
 //! How a User-Password is hidden in a packet: RFC 2865 section 5.2.
 
-ghost use Rattle.std.specs.Prelude.{◌≡◌, ◌≤◌, List, ℕ, length, take, IfErr, IfOk, OnOk};
+ghost use Rattle.std.specs.Prelude.{◌≡◌, ◌≤◌, List, ℕ, length, take, IfErr, IfOk, IsTrue, OnOk};
 ghost use Rattle.rad_wire.specs.Hiding.{
   HasNoTrailingZero,
   HideRefused,
@@ -8,6 +8,7 @@ ghost use Rattle.rad_wire.specs.Hiding.{
   RevealRefused,
   carried,
   hidden,
+  is_hidden_length,
   padded,
   padding_after,
   revealed,
@@ -95,9 +96,29 @@ pub fn reveal(
     ensures taken { OnOk result (IsHiddenLength (length hidden.now)) }
     ensures refused { IfErr result (RevealRefused hidden.now) }
 {
-    if hidden.is_empty() || hidden.len() > LONGEST || hidden.len() % 16 != 0 {
+    if !is_hidden_length(hidden.len()) {
         return Err(RevealFault::BadLength(carried(hidden.len())));
     }
+    Ok(revealed(alloc, hidden, secret, authenticator)?)
+}
+
+/// Whether so many octets can be a hidden password: 16 to 128, a multiple of 16.
+pub(crate) fn is_hidden_length(count: usize) -> bool
+    ensures { result ≡ is_hidden_length count }
+{
+    0 < count && count <= LONGEST && count % 16 == 0
+}
+
+/// The password that octets of such a number hide, without the zero octets at its end. The authenticator has 16.
+pub(crate) fn revealed(
+    alloc: Global,
+    hidden: &[u8],
+    secret: &[u8],
+    authenticator: &[u8],
+) -> Result<Octets, NoMemory>
+    requires { IsTrue (is_hidden_length (length hidden.now)) }
+    ensures { IfOk result (λ octets. octets ≡ revealed hidden.now secret.now authenticator.now) }
+{
     let first = block_digest(secret, authenticator);
     let mut password = reveal_blocks(alloc, hidden, secret, first)?;
     password.truncate(count_without_zeros(password.as_slice()));

@@ -9,19 +9,30 @@ mod block;
 mod cause;
 mod checking;
 mod client;
+mod decoding;
 mod hiding;
 mod laws;
 mod proxy_state;
 mod reply;
+mod reply_pairs;
+mod vendor;
+mod wire_value;
 
 pub use cause::DropCause;
 pub use checking::{Checked, check};
 pub use client::Client;
+pub use decoding::decode;
 pub use hiding::{HideFault, RevealFault, hidden_passwords_are_revealed, hide, reveal};
 pub use laws::{attributes_have_one_reading, authentic_has_no_cause};
-pub use reply::empty_reply;
+pub use reply::{empty_reply, reply_bytes};
 
 #[cfg(test)]
+mod decoding_tests;
+#[cfg(test)]
+mod fixtures;
+#[cfg(test)]
 mod hiding_tests;
+#[cfg(test)]
+mod reply_tests;
 #[cfg(test)]
 mod tests;

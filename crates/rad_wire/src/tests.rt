@@ -1,22 +1,13 @@
 //! Datagrams that are taken and dropped, and replies. The digests were computed by Python's hashlib.
 
 use super::*;
-use rad_edge::{ListenKind, NoMemory, Octets};
-use std::alloc::Global;
+use crate::fixtures::a_client;
+use rad_edge::ListenKind;
 use std::test::Fail;
 
 /// The Access-Request of RFC 2865 section 7.1.
 const NEMO: &[u8] =
     b"\x01\x00\x00\x38\x0f\x40\x3f\x94\x73\x97\x80\x57\xbd\x83\xd5\xcb\x98\xf4\x22\x7a\x01\x06\x6e\x65\x6d\x6f\x02\x12\x0d\xbe\x70\x8d\x93\xd4\x13\xce\x31\x96\xe4\x3f\x78\x2a\x0a\xee\x04\x06\xc0\xa8\x01\x10\x05\x06\x00\x00\x00\x03";
-
-fn a_client(alloc: Global) -> Result<Client, NoMemory> {
-    Ok(Client {
-        name: Octets::of(alloc, b"nas")?,
-        addr: 0xc0a8_0110,
-        bits: 32,
-        secret: Octets::of(alloc, b"xyzzy5461")?,
-    })
-}
 
 #[test]
 fn datagrams_are_taken_or_dropped(rt: HostRuntime) -> Result<(), Fail> {
