@@ -4,7 +4,7 @@ use Rattle.std.specs.Str.{bytes_eq}
 use Rattle.std.specs.Arc.{arc_value}
 use Rattle.rad_wire.specs.declared.client.Client.{Client}
 use Rattle.rad_wire.specs.Packet.{packet_of}
-use Rattle.rad_wire.specs.Octets.{empty_reply_octets}
+use Rattle.rad_wire.specs.Reply.{reply_octets}
 use Rattle.rad_core.specs.declared.arrival.Arrived.{Arrived}
 use Rattle.rad_core.specs.declared.outcome.Outcome.{Outcome}
 use Rattle.rad_core.specs.declared.outcome.Outcome.TheVariants as outcome
@@ -33,8 +33,8 @@ secret_of site addr = elim (client_of site addr) [ None ↦ [] | Some client ↦
 
 -- The reply of a verdict: an empty Access-Accept (2), an empty Access-Reject (3), or none.
 abbrev pub reply_to : Verdict → List ℕ → List ℕ → Reply
-reply_to verdict.Accept packet secret = Replies (empty_reply_octets 2 packet secret)
-reply_to verdict.Reject packet secret = Replies (empty_reply_octets 3 packet secret)
+reply_to verdict.Accept packet secret = Replies (reply_octets 2 [] packet secret)
+reply_to verdict.Reject packet secret = Replies (reply_octets 3 [] packet secret)
 reply_to verdict.Withhold packet secret = Withholds
 
 -- What an authentic access request is answered. Plain codes need no moment, no luck and no device.
@@ -44,6 +44,6 @@ access_of site arrival moment luck answers =
 
 -- The outcome is the empty reply of a code to a packet, unless memory ran out.
 abbrev pub IsEmptyReply : List ℕ → List ℕ → ℕ → Outcome → Type 0
-IsEmptyReply packet secret code (outcome.Sent octets) = arc_value octets ≡ empty_reply_octets code packet secret
+IsEmptyReply packet secret code (outcome.Sent octets) = arc_value octets ≡ reply_octets code [] packet secret
 IsEmptyReply packet secret code outcome.Withheld = ⊥
 IsEmptyReply packet secret code outcome.NoMemory = Unit {0}

@@ -13,7 +13,8 @@ use crate::section::{Statement, Verdict};
 use rad_conf::read_conf;
 use rad_core::{Arrival, Outcome, Policy};
 use rad_edge::{Files, Shelf};
-use rad_wire::{Client, check, empty_reply};
+use rad_value::Lists;
+use rad_wire::{Client, check, reply_bytes};
 use std::alloc::Global;
 use std::sync::Arc;
 
@@ -95,7 +96,7 @@ impl Generation {
             Some(client) => client.secret.as_slice(),
             None => &[],
         };
-        match empty_reply(alloc, code, &request, secret) {
+        match reply_bytes(alloc, code, &Lists::new(alloc), &request, secret) {
             Ok(reply) => match Arc::new(alloc, reply) {
                 Ok(reply) => Outcome::Sent(reply),
                 Err(_) => Outcome::NoMemory,
