@@ -1,4 +1,4 @@
-ghost use Rattle.std.specs.Prelude.{◌≡◌, ◌≢◌, ◌++◌, ◌∷◌, [], Some, IfSome, IsSome, IsErr, OnOk};
+ghost use Rattle.std.specs.Prelude.{◌≡◌, ◌≢◌, ◌++◌, ◌∷◌, [], Some, IfSome, IsSome, IsErr, OnOk, is_some};
 ghost use Rattle.rad_edge.specs.Telling.{Tells, Counts};
 ghost use Rattle.rad_edge.specs.Shelf.{Appends};
 ghost use Rattle.rad_edge.specs.Failing.{next_cut};
@@ -51,6 +51,13 @@ impl MemShelf {
             faults: 0,
             appends: Failing::new(failing),
         }
+    }
+
+    /// Whether the shelf tells, as it does until it finds no memory for its record.
+    pub fn is_telling(&self) -> bool
+        ensures { result ≡ is_some self.now.told }
+    {
+        self.is_telling
     }
 
     /// The pieces that were handed in, in order.

@@ -1,4 +1,4 @@
-ghost use Rattle.std.specs.Prelude.{◌≡◌, ◌≤◌, ◌++◌, ◌∷◌, [], Some, IfSome, IsErr, IsTrue, is_ok, length, take, OnOk};
+ghost use Rattle.std.specs.Prelude.{◌≡◌, ◌≤◌, ◌++◌, ◌∷◌, [], Some, IfSome, IsErr, IsTrue, is_ok, is_some, length, take, OnOk};
 ghost use Rattle.rad_edge.specs.Telling.{Tells, Counts};
 ghost use Rattle.rad_edge.specs.Wire.{heard_of, FitsBuffer, failures_after, IsEnding};
 ghost use Rattle.rad_edge.specs.Failing.{fails_next};
@@ -83,6 +83,13 @@ impl MemWire {
             receives: Failing::new(failing_receives),
             sends: Failing::new(failing_sends),
         }
+    }
+
+    /// Whether the wire tells, as it does until it finds no memory for its record.
+    pub fn is_telling(&self) -> bool
+        ensures { result ≡ is_some self.now.told }
+    {
+        self.is_telling
     }
 
     /// The answers so far, in order.

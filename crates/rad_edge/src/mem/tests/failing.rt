@@ -86,6 +86,7 @@ fn a_wire_fails_where_it_is_to_and_keeps_its_script(rt: HostRuntime) -> Result<(
             let octets = if want == abc { b"abc".as_slice() } else { b"" };
             assert!(rt; answers(&mut wire, want, octets));
         }
+        assert!(rt; wire.is_telling());
         assert_eq!(rt; wire.heard().len(), 6);
         for (heard, want) in wire.heard().iter().zip(wants) {
             assert!(rt; is_heard(heard, want));
@@ -122,6 +123,7 @@ fn a_failed_send_is_recorded_as_not_done(rt: HostRuntime) -> Result<(), Fail> {
     for (octets, done) in sends {
         assert!(rt; send(&mut wire, octets).is_ok() == done);
     }
+    assert!(rt; wire.is_telling());
     assert_eq!(rt; wire.sent().len(), 4);
     for (sent, (octets, done)) in wire.sent().iter().zip(sends) {
         assert_eq!(rt; sent.octets.as_slice(), octets);
@@ -146,6 +148,7 @@ fn a_failed_append_leaves_a_proper_prefix(rt: HostRuntime) -> Result<(), Fail> {
     for (done, _) in wants {
         assert!(rt; put(&mut shelf, "log").is_ok() == done);
     }
+    assert!(rt; shelf.is_telling());
     assert_eq!(rt; shelf.appends().len(), 6);
     for (append, (_, written)) in shelf.appends().iter().zip(wants) {
         assert_eq!(rt; append.path.as_slice(), b"log".as_slice());
