@@ -1,12 +1,11 @@
 -- The parts behind a Vendor-Id, and the pairs that they are.
-use Rattle.std.proofs.Common.{◌≡◌, ℕ, zero, suc, ◌+◌, ◌<◌, ◌≤◌, Bool, true, false, cond, List, [], ◌∷◌, ◌++◌, length, get_or, drop, refl, sym, ap, ◌∙◌, append_assoc, arith}
+use Rattle.std.proofs.Common.{◌≡◌, ℕ, suc, ◌+◌, ◌<◌, ◌≤◌, Bool, true, false, cond, List, [], ◌∷◌, ◌++◌, length, get_or, drop, refl, sym, ap, arith}
 use Rattle.std.specs.Prelude.{map}
 use Rattle.std.specs.List.{flat_map, AllByRecursion}
 use Rattle.std.specs.Str.{bytes_eq}
 use Rattle.std.specs.Cmp.Lexicographic.{same_text}
 use Rattle.std.proofs.lemmas.Bool.{eq-eqb}
-use Rattle.std.proofs.lemmas.List.{length-append, length-map, length-drop, get_or-append-add, nil_from_length}
-use Rattle.rad_value.specs.declared.values.Pair.{Pair}
+use Rattle.std.proofs.lemmas.List.{length-append, length-drop, get_or-append-add, nil_from_length}
 use Rattle.rad_dict.specs.Definitions.{Definitions}
 use Rattle.rad_wire.specs.Packet.{Attribute, spelled, AreAttributes, attributes_in}
 use Rattle.rad_wire.specs.Pairs.{of_vendor, pair_of, vendor_of, vendor_pairs, vendor_parts}
