@@ -10,3 +10,4 @@ pub mod VendorParts
 pub mod PairWalks
 pub mod Fitting
 pub mod AttributePairs
+pub mod RepliesDecoded

@@ -1,6 +1,6 @@
 -- Replies: the attributes of pairs that fit, then the request's Proxy-States, behind a header that is signed.
 use Rattle.std.proofs.Common.{◌≡◌, ℕ, ◌+◌, ◌-◌, ◌≤◌, Bool, true, false, cond, List, [], ◌∷◌, ◌++◌, length, take, drop, refl, sym, ap, ◌∙◌, arith}
-use Rattle.std.specs.Prelude.{◌==◌, filter, nat_lt}
+use Rattle.std.specs.Prelude.{◌==◌, nat_lt}
 use Rattle.std.specs.Int.{w32, to_be_bytes}
 use Rattle.std.specs.List.{flat_map, AllByRecursion}
 use Rattle.std.proofs.lemmas.Bool.{ltb-false}
@@ -11,8 +11,8 @@ use Rattle.md5.proofs.StandardFacts.{length-md5}
 use Rattle.rad_tables.specs.declared.attributes.Space.{Space}
 use Rattle.rad_tables.specs.declared.attributes.Space.TheVariants.{Standard, Vendor, Internal}
 use Rattle.rad_value.specs.declared.values.Pair.{Pair}
-use Rattle.rad_wire.specs.Packet.{Attribute, AreAttributes, IsPacket, IsWellFormed, authenticator_of, attributes_of, code_of, id_of, spelled}
-use Rattle.rad_wire.specs.Octets.{empty_reply_octets, proxy_octets, proxy_states, reply_head, response_authenticator, signed_reply}
+use Rattle.rad_wire.specs.Packet.{Attribute, AreAttributes, IsPacket, IsWellFormed, authenticator_of, code_of, id_of, spelled}
+use Rattle.rad_wire.specs.Octets.{empty_reply_octets, proxy_states, reply_head, response_authenticator, signed_reply}
 use Rattle.rad_wire.specs.Reply.{attributes_for, fitting, is_left_out, proxy_state_attributes, reply_attributes, reply_octets, room_beside, sent_attributes}
 use Rattle.rad_wire.specs.Values.{octets_of}
 use Rattle.rad_wire.proofs.AttributeLists.{packet_reading}

@@ -1,12 +1,12 @@
 -- The parts behind a Vendor-Id, and the pairs that they are.
-use Rattle.std.proofs.Common.{◌≡◌, ℕ, zero, suc, ◌+◌, ◌<◌, ◌≤◌, Bool, true, false, cond, List, [], ◌∷◌, ◌++◌, length, get_or, drop, refl, sym, ap, ◌∙◌, append_assoc, arith}
-use Rattle.std.specs.Prelude.{map}
+use Rattle.std.proofs.Common.{inl, inr, ◌≢◌, ◌≡◌, ℕ, suc, ◌+◌, ◌<◌, ◌≤◌, Bool, true, false, cond, List, [], ◌∷◌, ◌++◌, length, get_or, drop, refl, sym, ap, arith}
+use Rattle.std.specs.Prelude.{All, map}
 use Rattle.std.specs.List.{flat_map, AllByRecursion}
 use Rattle.std.specs.Str.{bytes_eq}
 use Rattle.std.specs.Cmp.Lexicographic.{same_text}
-use Rattle.std.proofs.lemmas.Bool.{eq-eqb}
-use Rattle.std.proofs.lemmas.List.{length-append, length-map, length-drop, get_or-append-add, nil_from_length}
-use Rattle.rad_value.specs.declared.values.Pair.{Pair}
+use Rattle.std.proofs.lemmas.Bool.{cases_lt, eq-eqb}
+use Rattle.std.proofs.lemmas.List.{length-append, length-drop, get_or-append-add, get_or_past, nil_from_length}
+use Rattle.std.proofs.lemmas.List.Elements.{All-drop, All-get_or}
 use Rattle.rad_dict.specs.Definitions.{Definitions}
 use Rattle.rad_wire.specs.Packet.{Attribute, spelled, AreAttributes, attributes_in}
 use Rattle.rad_wire.specs.Pairs.{of_vendor, pair_of, vendor_of, vendor_pairs, vendor_parts}
@@ -49,15 +49,21 @@ spelled_fit (a ∷ attributes) h =
     omega (arith, below, e) in
     (omega (arith, size), spelled_fit attributes rest)
 
+-- what was read stands behind the Vendor-Id where it is spelled so
+read_stands : (octets : List ℕ) → AreOctets (drop 4 octets)
+    → bytes_eq (flat_map spelled (attributes_in (length octets) (drop 4 octets))) (drop 4 octets) ≡ true
+    → AreAttributes (attributes_in (length octets) (drop 4 octets)) (drop 4 octets)
+read_stands octets below equal =
+    let read = attributes_in (length octets) (drop 4 octets) in
+    let same : flat_map spelled read ≡ drop 4 octets = same_text (flat_map spelled read) (drop 4 octets) (sym equal) in
+    record { joined = sym same; fit = spelled_fit read (rw same below) }
+
 -- where no parts stand behind the Vendor-Id, none are read
 pub no_parts_read : (octets : List ℕ) → AreOctets (drop 4 octets) → ((parts : List Attribute) → ¬ AreAttributes parts (drop 4 octets))
     → vendor_parts octets ≡ []
 no_parts_read octets below none =
     let read = attributes_in (length octets) (drop 4 octets) in
-    not_taken (bytes_eq (flat_map spelled read) (drop 4 octets)) read (λ equal.
-    let same : flat_map spelled read ≡ drop 4 octets = same_text (flat_map spelled read) (drop 4 octets) (sym equal) in
-    let fit = spelled_fit read (rw same below) in
-    none read (record { joined = sym same; fit = fit }))
+    not_taken (bytes_eq (flat_map spelled read) (drop 4 octets)) read (λ equal. none read (read_stands octets below equal))
 
 -- where nothing is behind the Vendor-Id, no parts are read
 pub nothing_behind : (octets : List ℕ) → length octets ≤ 4 → vendor_parts octets ≡ []
@@ -74,3 +80,25 @@ pairs_of_parts octets dict (part ∷ parts) h long = ap (vendor_pairs octets dic
 pub parts_count : (parts : List Attribute) → length parts ≤ length (flat_map spelled parts)
 parts_count [] = omega arith
 parts_count (a ∷ parts) = omega (arith, parts_count parts, length-append (spelled a) (flat_map spelled parts))
+
+-- ---- the parts as a law
+
+octets_below : (octets : List ℕ) → All (λ octet. octet < 256) octets → AreOctets octets
+octets_below octets all i =
+    elim (cases_lt i (length octets)) [
+      | inl within ↦ All-get_or (λ (octet : ℕ). octet < 256) octets i 0 within all
+      | inr past ↦ rw (get_or_past octets i 0 past) (omega arith)
+    ]
+
+only_taken : (b : Bool) (read : List Attribute) (behind : List ℕ) → (b ≡ true → AreAttributes read behind) → cond b read [] ≢ []
+    → AreAttributes (cond b read []) behind
+only_taken true read behind are some = are refl
+only_taken false read behind are some = absurd (some refl)
+
+-- parts that are read stand behind the Vendor-Id as attributes
+pub parts_only : (octets : List ℕ) → All (λ octet. octet < 256) octets → vendor_parts octets ≢ []
+    → AreAttributes (vendor_parts octets) (drop 4 octets)
+parts_only octets all some =
+    let read = attributes_in (length octets) (drop 4 octets) in
+    let below = octets_below (drop 4 octets) (All-drop (λ (octet : ℕ). octet < 256) 4 octets all) in
+    only_taken (bytes_eq (flat_map spelled read) (drop 4 octets)) read (drop 4 octets) (read_stands octets below) some

@@ -1,8 +1,8 @@
 -- Walks over attributes from the front on, which make something of each.
-use Rattle.std.proofs.Common.{◌≡◌, ℕ, ◌+◌, ◌≤◌, List, [], ◌∷◌, ◌++◌, length, refl, sym, ap, ◌∙◌, append_assoc, arith}
+use Rattle.std.proofs.Common.{◌≡◌, ℕ, ◌+◌, List, ◌++◌, length, refl, sym, ap, ◌∙◌, append_assoc, arith}
 use Rattle.std.specs.List.{flat_map}
-use Rattle.std.proofs.lemmas.List.{append-nil, length-append}
-use Rattle.rad_wire.specs.Packet.{Attribute, spelled, AreAttributes}
+use Rattle.std.proofs.lemmas.List.{append-nil}
+use Rattle.rad_wire.specs.Packet.{Attribute, AreAttributes}
 use Rattle.rad_wire.specs.Front.{IsFront, IsSplit}
 use Rattle.rad_wire.proofs.AttributeLists.{Follow-from, AreAttributes-none, front_size}
 

@@ -7,3 +7,4 @@ pub mod Values
 pub mod Pairs
 pub mod Reply
 pub mod Appended
+pub mod Carried

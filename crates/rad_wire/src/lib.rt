@@ -23,7 +23,10 @@ pub use checking::{Checked, check};
 pub use client::Client;
 pub use decoding::decode;
 pub use hiding::{HideFault, RevealFault, hidden_passwords_are_revealed, hide, reveal};
-pub use laws::{attributes_have_one_reading, authentic_has_no_cause};
+pub use laws::{
+    attributes_have_one_reading, authentic_has_no_cause, replies_are_decoded, replies_are_packets,
+    vendor_parts_have_one_reading,
+};
 pub use reply::{empty_reply, reply_bytes};
 
 #[cfg(test)]

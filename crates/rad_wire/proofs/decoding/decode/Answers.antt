@@ -1,4 +1,4 @@
-use Rattle.std.proofs.Common.{◌≡◌, List, drop, ap, sym, ◌∙◌}
+use Rattle.std.proofs.Common.{List, drop, ap, sym, ◌∙◌}
 use Rattle.std.specs.List.{flat_map}
 use Rattle.rad_value.specs.PairLists.{no_pairs}
 use Rattle.rad_wire.specs.Packet.{Attribute}

@@ -1,11 +1,9 @@
 use Rattle.std.specs.Prelude.{◌⊎◌, ◌==◌}
-use Rattle.std.proofs.Common.{◌≡◌, false, List, [], ◌∷◌, ◌++◌, take, drop, sym, ap, ◌∙◌, inl, inr}
+use Rattle.std.proofs.Common.{◌≡◌, false, [], ◌∷◌, sym, ◌∙◌, inl, inr}
 use Rattle.std.proofs.lemmas.Bool.{ne_eqb}
-use Rattle.std.proofs.lemmas.Result.{on_ok_weaker}
-use Rattle.rad_value.specs.declared.values.Pair.{Pair}
 use Rattle.rad_tables.specs.declared.attributes.AttrId.{AttrId}
 use Rattle.rad_tables.specs.declared.attributes.Space.TheVariants.{Standard}
-use Rattle.rad_wire.specs.Packet.{authenticator_of, code_of}
+use Rattle.rad_wire.specs.Packet.{code_of}
 use Rattle.rad_wire.specs.Pairs.{attribute_pairs}
 use Rattle.rad_wire.proofs.AttributePairs.{attribute, of_vendors, of_password, of_others}
 use Rattle.rad_wire.proofs.decoding.push_attribute_pairs.Goals as goal

@@ -1,4 +1,4 @@
-use Rattle.std.proofs.Common.{◌≡◌, ap, sym, ◌∙◌, arith}
+use Rattle.std.proofs.Common.{sym, arith}
 use Rattle.rad_wire.proofs.Fitting.{Writes-more, Writes-full, Writes-end, Writes-none}
 use Rattle.rad_wire.proofs.reply_pairs.push_pairs.Goals as goal
 

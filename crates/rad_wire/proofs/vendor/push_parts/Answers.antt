@@ -1,4 +1,4 @@
-use Rattle.std.proofs.Common.{◌≡◌, List, ◌∷◌, ◌++◌, [], ap, ◌∙◌, sym, arith}
+use Rattle.std.proofs.Common.{List, ◌++◌, ap, ◌∙◌, arith}
 use Rattle.std.proofs.lemmas.List.Concat.{flat_map_single}
 use Rattle.rad_value.specs.declared.edits.ListName.TheVariants.{Request}
 use Rattle.rad_value.specs.declared.values.Pair.{Pair}

@@ -1,0 +1,64 @@
+-- Which pairs come back from a reply as they were: RFC 2865 sections 5 and 5.26.
+use Rattle.std.specs.Prelude.{ℕ, ◌≡◌, ◌≢◌, ◌<◌, ◌≤◌, ◌^◌, List, [], length, map}
+use Rattle.std.specs.List.{flat_map}
+use Rattle.rad_tables.specs.declared.attributes.Kind.{Kind}
+use Rattle.rad_tables.specs.declared.attributes.Kind.TheVariants as kinds
+use Rattle.rad_tables.specs.declared.attributes.Space.{Space}
+use Rattle.rad_tables.specs.declared.attributes.Space.TheVariants.{Standard, Vendor, Internal}
+use Rattle.rad_value.specs.declared.values.Pair.{Pair}
+use Rattle.rad_value.specs.declared.values.Value.{Value}
+use Rattle.rad_value.specs.declared.values.Value.TheVariants as values
+use Rattle.rad_dict.specs.Definitions.{Definitions}
+use Rattle.rad_wire.specs.Packet.{Attribute, spelled}
+use Rattle.rad_wire.specs.Pairs.{kind_of, pair_of, standard, vendor_parts}
+use Rattle.rad_wire.specs.Reply.{attributes_for, proxy_state_attributes, room_beside}
+use Rattle.rad_wire.specs.Values.{octets_of}
+
+-- The kind that a value is of.
+abbrev pub variant_of : Value → Kind
+variant_of (values.Text text) = kinds.Text
+variant_of (values.Octets octets) = kinds.Octets
+variant_of (values.Addr address) = kinds.Addr
+variant_of (values.Number number) = kinds.Number
+variant_of (values.Date seconds) = kinds.Date
+variant_of (values.Byte number) = kinds.Byte
+variant_of (values.Short number) = kinds.Short
+
+-- A value's number fits the octets of its kind.
+abbrev pub IsInRange : Value → Type 0
+IsInRange (values.Text text) = Unit {0}
+IsInRange (values.Octets octets) = Unit {0}
+IsInRange (values.Addr address) = address < 2 ^ 32
+IsInRange (values.Number number) = number < 2 ^ 32
+IsInRange (values.Date seconds) = seconds < 2 ^ 32
+IsInRange (values.Byte number) = number < 2 ^ 8
+IsInRange (values.Short number) = number < 2 ^ 16
+
+-- A value of so many octets is written uncut in this space, and a vendor's number fits its four octets.
+abbrev pub IsUncut : Space → ℕ → Type 0
+IsUncut Standard count = count ≤ 253
+IsUncut (Vendor vendor) count = (count ≤ 247) × (vendor < 2 ^ 32)
+IsUncut Internal count = ⊥
+
+-- A value of the standard attribute 26 is octets that aren't a Vendor-Id and parts.
+abbrev pub HasNoParts : Value → Type 0
+HasNoParts (values.Octets octets) = vendor_parts octets ≡ []
+HasNoParts _ = ⊥
+
+-- A reply carries this pair, and it is read again by this dictionary: it isn't left out, its value is of its
+-- attribute's kind, in range and uncut, and one of the standard attribute 26 isn't read as parts.
+pub record IsCarried (dict : Definitions) (pair : Pair) : Type 0 where
+  pub sent : attributes_for pair ≢ []
+  pub kind : variant_of pair.value ≡ kind_of pair.attr dict
+  pub range : IsInRange pair.value
+  pub uncut : IsUncut pair.attr.space (length (octets_of pair.value))
+  pub plain : pair.attr ≡ standard 26 → HasNoParts pair.value
+
+-- All these pairs fit into a reply to the request.
+abbrev pub FitBeside : List Pair → List ℕ → Type 0
+FitBeside pairs request = length (flat_map spelled (flat_map attributes_for pairs)) ≤ room_beside request
+
+-- The request's Proxy-State attributes as pairs.
+abbrev pub proxy_state_pairs : List ℕ → Definitions → List Pair
+proxy_state_pairs request dict =
+    map (λ (a : Attribute). pair_of (standard a.kind) a.value dict) (proxy_state_attributes request)
