@@ -1,0 +1,4 @@
+pub mod DigitLemmas
+pub mod DigitPairs
+pub mod WordLemmas
+pub mod Turns
