@@ -7,3 +7,4 @@ pub mod Words
 pub mod Spots
 pub mod PairParts
 pub mod Items
+pub mod ReadingBack
