@@ -1,16 +1,16 @@
 -- Addresses that are printed and read again.
-use Rattle.std.proofs.Common.{◌≡◌, ℕ, ◌+◌, ◌-◌, ◌*◌, ◌/◌, ◌%◌, ◌^◌, ◌<◌, ◌≤◌, Bool, true, false, ◌&&◌, List, [], ◌∷◌, ◌++◌, length, Option, Some, None, refl, sym, ap, ◌∙◌, arith}
+use Rattle.std.proofs.Common.{◌≡◌, ℕ, ◌-◌, ◌/◌, ◌%◌, ◌^◌, ◌<◌, ◌≤◌, false, List, [], ◌∷◌, ◌++◌, length, Some, refl, sym, ap, ◌∙◌, arith}
 use Rattle.std.specs.Int.{w32, from_be_bytes}
 use Rattle.std.specs.Fmt.{decimal}
 use Rattle.std.proofs.lemmas.Bool.{cond-true, lt-ltb, le-leb, and_from}
 use Rattle.std.proofs.lemmas.Fmt.{length-decimal-le}
 use Rattle.std.proofs.lemmas.List.{append-nil, length-append}
-use Rattle.rad_pairs.specs.Numerals.{begins_with_digit, number_at}
+use Rattle.rad_pairs.specs.Numerals.{begins_with_digit}
 use Rattle.rad_pairs.specs.ValueText.{dotted}
-use Rattle.rad_pairs.specs.ValueReading.{part_at, next_part_at, address_of}
+use Rattle.rad_pairs.specs.ValueReading.{part_at, address_of}
 use Rattle.rad_pairs.specs.ReadingBack.{IsName}
 use Rattle.rad_pairs.proofs.Decimals.{number_read}
-use Rattle.rad_pairs.proofs.Names.{are_name_octets, decimal_octets, decimal_name, joined}
+use Rattle.rad_pairs.proofs.Names.{decimal_octets, joined}
 
 part_again : (n : ℕ) (rest : List ℕ) → n < 256 → begins_with_digit 10 rest ≡ false → part_at (decimal n ++ rest) ≡ Some (n, rest)
 unfolding part_at

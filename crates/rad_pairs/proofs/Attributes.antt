@@ -1,7 +1,6 @@
 -- Names of attributes that are printed and read again.
-use Rattle.std.proofs.Common.{◌≡◌, ℕ, ◌+◌, ◌^◌, ◌<◌, Bool, true, false, cond, ◌&&◌, eqb, List, [], ◌∷◌, ◌++◌, length, take, Option, Some, None, refl, sym, ap, subst, ◌∙◌, arith}
+use Rattle.std.proofs.Common.{◌≡◌, ℕ, ◌^◌, ◌<◌, true, eqb, List, [], ◌∷◌, ◌++◌, length, take, Option, Some, None, refl, sym, ap, ◌∙◌, arith}
 use Rattle.std.specs.Prelude.{codes}
-use Rattle.std.specs.List.{Contains, find}
 use Rattle.std.specs.Str.{str_eq_ignore_ascii_case}
 use Rattle.std.specs.Fmt.{decimal}
 use Rattle.std.proofs.lemmas.Bool.{true≢false, cond-true, and_parts, eqb-true, ltb-true, lt-ltb}
@@ -21,7 +20,7 @@ use Rattle.rad_pairs.specs.AttrNames.{numbered, kind_or_octets, named}
 use Rattle.rad_pairs.specs.ReadingBack.{IsName, IsPlain, IsSpace, unnamed_kind, kind_of}
 use Rattle.rad_pairs.proofs.Lookups.{find_fits, find_finds, same_itself, same_begin}
 use Rattle.rad_pairs.proofs.Decimals.{number_read, number_alone, number_again}
-use Rattle.rad_pairs.proofs.Names.{are_name_octets, decimal_octets, joined}
+use Rattle.rad_pairs.proofs.Names.{decimal_octets, joined}
 
 same_space_is : (s t : Space) → same_space s t ≡ true → s ≡ t
 same_space_is Standard Standard e = refl

@@ -1,12 +1,12 @@
 -- Numbers that are printed in decimal and read again.
-use Rattle.std.proofs.Common.{◌≡◌, ℕ, ◌+◌, ◌*◌, ◌-◌, ◌^◌, ◌<◌, ◌≤◌, Bool, true, false, ◌&&◌, List, [], ◌∷◌, ◌++◌, length, Option, Some, None, refl, sym, ap, ◌∙◌, arith}
+use Rattle.std.proofs.Common.{◌≡◌, ℕ, ◌+◌, ◌*◌, ◌^◌, ◌<◌, true, false, List, [], ◌∷◌, ◌++◌, length, Some, refl, sym, ap, ◌∙◌, arith}
 use Rattle.std.specs.Fmt.{decimal}
 use Rattle.std.specs.Str.Parse.{AllDigits, digits_value_after}
-use Rattle.std.specs.Char.{digit_value, is_digit}
+use Rattle.std.specs.Char.{digit_value}
 use Rattle.std.proofs.lemmas.Bool.{cond-true, cond-false, lt-ltb}
 use Rattle.std.proofs.lemmas.Fmt.{decimal_is_IsNumeral}
 use Rattle.std.proofs.lemmas.List.{append-nil}
-use Rattle.rad_pairs.specs.Numerals.{digits_at, begins_with_digit, fitting, number_at, number_of, whole}
+use Rattle.rad_pairs.specs.Numerals.{digits_at, begins_with_digit, fitting, number_at, number_of}
 
 digits_end : (radix k : ℕ) (rest : List ℕ) → begins_with_digit radix rest ≡ false → digits_at radix k rest ≡ (k, rest)
 unfolding digits_at

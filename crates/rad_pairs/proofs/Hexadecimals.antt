@@ -1,5 +1,5 @@
 -- Octets that are printed in hexadecimal and read again.
-use Rattle.std.proofs.Common.{◌≡◌, ℕ, ◌+◌, ◌*◌, ◌/◌, ◌%◌, ◌<◌, Bool, true, ◌&&◌, List, [], ◌∷◌, ◌++◌, Option, Some, None, refl, sym, ap, ◌∙◌, arith}
+use Rattle.std.proofs.Common.{◌≡◌, ℕ, ◌+◌, ◌*◌, ◌/◌, ◌%◌, ◌<◌, true, List, [], ◌∷◌, ◌++◌, Some, refl, ap, ◌∙◌, arith}
 use Rattle.std.specs.Option.{option_map}
 use Rattle.std.specs.List.{flat_map}
 use Rattle.std.specs.Char.{digit_value, digit_char, is_digit}
@@ -8,7 +8,7 @@ use Rattle.std.proofs.lemmas.Str.{digit_value-digit_char}
 use Rattle.std.proofs.lemmas.List.Concat.{flat_map-cons}
 use Rattle.rad_pairs.specs.ValueText.{two_digits, hexadecimal}
 use Rattle.rad_pairs.specs.ValueReading.{digit_pairs, octets_of}
-use Rattle.rad_pairs.specs.ReadingBack.{is_name_octet, IsName, AreOctets}
+use Rattle.rad_pairs.specs.ReadingBack.{IsName, AreOctets}
 use Rattle.rad_pairs.proofs.Names.{are_name_octets, hexadecimal_digit, joined}
 
 digit_again : (d : ℕ) → d < 16 → is_digit (digit_char d) 16 ≡ true

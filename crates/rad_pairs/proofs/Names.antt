@@ -1,15 +1,15 @@
 -- Names and bare words: all of their octets are name octets.
-use Rattle.std.proofs.Common.{◌≡◌, ℕ, zero, suc, ◌+◌, ◌<◌, ◌≤◌, ◌^◌, Bool, true, false, cond, ◌&&◌, ◌||◌, eqb, List, [], ◌∷◌, ◌++◌, length, take, drop, Option, Some, None, refl, sym, ap, ◌∙◌, inl, inr, arith}
+use Rattle.std.proofs.Common.{◌≡◌, ℕ, suc, ◌<◌, ◌≤◌, ◌^◌, Bool, true, false, ◌&&◌, ◌||◌, eqb, List, [], ◌∷◌, ◌++◌, length, Some, None, refl, sym, ap, ◌∙◌, arith}
 use Rattle.std.specs.Prelude.{slice_index}
 use Rattle.std.specs.Option.{is_some}
-use Rattle.std.specs.List.{list_all, flat_map, AllByRecursion}
+use Rattle.std.specs.List.{list_all}
 use Rattle.std.specs.Char.{digit_value, digit_char}
 use Rattle.std.specs.Fmt.{decimal}
 use Rattle.std.specs.Str.Parse.{AllDigits}
-use Rattle.std.proofs.lemmas.Bool.{true≢false, cond-true, cond-false, lt-ltb, le-ltb, le-leb, ne_eqb, and_from, and_parts, and_right, or_left, or_from, cases_lt, agree_below_at}
+use Rattle.std.proofs.lemmas.Bool.{true≢false, cond-false, le-leb, ne_eqb, and_from, and_parts, or_from, agree_below_at}
 use Rattle.std.proofs.lemmas.Bool.Decides.{nat_tests}
 use Rattle.std.proofs.lemmas.Fmt.{decimal_is_IsNumeral}
-use Rattle.std.proofs.lemmas.List.{take_all, drop_all}
+use Rattle.std.proofs.lemmas.List.{take_at, drop_at}
 use Rattle.std.proofs.lemmas.List.Folds.{list_all-append}
 use Rattle.rad_pairs.specs.ReadingBack.{is_name_octet, IsName}
 use Rattle.rad_pairs.specs.Operators.{long_operator, short_operator, operator_at}
@@ -61,20 +61,20 @@ name_len_is (c ∷ name) more all =
     let goes : (ends_word c || is_some (operator_at (c ∷ (name ++ 32 ∷ more)))) ≡ false = or_from (ends_word c) (is_some (operator_at (c ∷ (name ++ 32 ∷ more)))) (no_end c parts.0) (no_operator c (name ++ 32 ∷ more) parts.0 (next_octet name more parts.1)) in
     cond-false _ _ _ goes ∙ ap suc (name_len_is name more parts.1)
 
-word_len_is : (word : List ℕ) → are_name_octets word ≡ true → word_len word ≡ length word
+word_len_is : (word tail : List ℕ) → are_name_octets word ≡ true → word_len tail ≡ 0 → word_len (word ++ tail) ≡ length word
 unfolding word_len
-word_len_is [] all = refl
-word_len_is (c ∷ word) all =
+word_len_is [] tail all ends = ends
+word_len_is (c ∷ word) tail all ends =
     let parts = and_parts (is_name_octet c) (are_name_octets word) all in
-    cond-false _ _ _ (no_end c parts.0) ∙ ap suc (word_len_is word parts.1)
+    cond-false _ _ _ (no_end c parts.0) ∙ ap suc (word_len_is word tail parts.1 ends)
 
 -- A name is a bare word.
-pub word_is : (word : List ℕ) → IsName word → word_at word ≡ Some (word, [])
+pub word_is : (word tail : List ℕ) → IsName word → word_len tail ≡ 0 → word_at (word ++ tail) ≡ Some (word, tail)
 unfolding word_at
-word_is [] name = absurd (omega (arith, name.0))
-word_is (c ∷ word) name =
+word_is [] tail name ends = absurd (omega (arith, name.0))
+word_is (c ∷ word) tail name ends =
     let first = (and_parts (is_name_octet c) (are_name_octets word) name.1).0 in
-    rw (is_not c 34 first refl, is_not c 39 first refl, word_len_is (c ∷ word) name.1, take_all (length (c ∷ word)) (c ∷ word) (omega arith), drop_all (length (c ∷ word)) (c ∷ word) (omega arith)) refl
+    rw (is_not c 34 first refl, is_not c 39 first refl, word_len_is (c ∷ word) tail name.1 ends, take_at (c ∷ word) tail (length (c ∷ word)) refl, drop_at (c ∷ word) tail (length (c ∷ word)) refl) refl
 
 -- No blank stands before a name.
 pub no_blanks : (name more : List ℕ) → IsName name → after_blanks (name ++ more) ≡ name ++ more

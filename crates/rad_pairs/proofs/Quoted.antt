@@ -1,11 +1,11 @@
 -- Texts in double quotes that are printed and read again.
-use Rattle.std.proofs.Common.{◌≡◌, ℕ, ◌+◌, ◌-◌, ◌*◌, ◌/◌, ◌%◌, ◌<◌, ◌≤◌, Bool, true, false, cond, ◌&&◌, ◌||◌, eqb, List, [], ◌∷◌, ◌++◌, Option, Some, None, refl, sym, ap, subst, ◌∙◌, append_assoc, inl, inr, arith}
-use Rattle.std.specs.List.{flat_map, AllByRecursion}
+use Rattle.std.proofs.Common.{◌≡◌, ℕ, ◌+◌, ◌-◌, ◌*◌, ◌/◌, ◌%◌, ◌<◌, ◌≤◌, true, false, eqb, List, [], ◌∷◌, ◌++◌, Some, refl, sym, ap, subst, ◌∙◌, append_assoc, inl, inr, arith}
+use Rattle.std.specs.List.{flat_map}
 use Rattle.std.specs.Int.{is_in_range}
-use Rattle.std.proofs.lemmas.Bool.{cond-true, cond-false, cases_Bool, eqb-true, eqb-false, leb-true, leb-false, ne_eqb, le-leb, and_parts, and_from, and_cases, or_parts, or_cases, cases_eq}
+use Rattle.std.proofs.lemmas.Bool.{cases_Bool, leb-true, ne_eqb, le-leb, and_parts, cases_eq}
 use Rattle.std.proofs.lemmas.List.Concat.{flat_map-cons}
 use Rattle.rad_pairs.specs.ValueText.{escaped, quoted}
-use Rattle.rad_pairs.specs.Words.{behind, is_octal, octal, escape_len, escape_value, double_quoted, word_at}
+use Rattle.rad_pairs.specs.Words.{behind, double_quoted, word_at}
 use Rattle.rad_pairs.specs.ReadingBack.{AreOctets}
 
 -- Each way in which an octet is printed reads as that octet.
@@ -56,14 +56,14 @@ escaped_read c more lt =
           ]
     ]
 
-texts_read : (text : List ℕ) → AreOctets text → double_quoted 0 (flat_map escaped text ++ 34 ∷ []) ≡ Some (text, [])
+texts_read : (text tail : List ℕ) → AreOctets text → double_quoted 0 (flat_map escaped text ++ 34 ∷ tail) ≡ Some (text, tail)
 unfolding double_quoted
-texts_read [] all = refl
-texts_read (c ∷ text) all =
-    ap (double_quoted 0) (ap (λ (octets : List ℕ). octets ++ 34 ∷ []) (flat_map-cons escaped c text) ∙ append_assoc (escaped c) (flat_map escaped text) (34 ∷ []))
-    ∙ escaped_read c (flat_map escaped text ++ 34 ∷ []) all.0
-    ∙ ap (behind c) (texts_read text all.1)
+texts_read [] tail all = refl
+texts_read (c ∷ text) tail all =
+    ap (double_quoted 0) (ap (λ (octets : List ℕ). octets ++ 34 ∷ tail) (flat_map-cons escaped c text) ∙ append_assoc (escaped c) (flat_map escaped text) (34 ∷ tail))
+    ∙ escaped_read c (flat_map escaped text ++ 34 ∷ tail) all.0
+    ∙ ap (behind c) (texts_read text tail all.1)
 
-pub quoted_read : (text : List ℕ) → AreOctets text → word_at (quoted text) ≡ Some (text, [])
+pub quoted_read : (text tail : List ℕ) → AreOctets text → word_at (quoted text ++ tail) ≡ Some (text, tail)
 unfolding quoted word_at
-quoted_read text all = texts_read text all
+quoted_read text tail all = ap (double_quoted 0) (append_assoc (flat_map escaped text) (34 ∷ []) tail) ∙ texts_read text tail all

@@ -1,8 +1,8 @@
 -- What makes a printed pair read back as that pair: the names of the dictionary, the pair's attribute and its value.
 -- The rules of names are those of dictionary(5) of FreeRADIUS, and this project's own.
-use Rattle.std.specs.Prelude.{◌≡◌, ℕ, ◌<◌, ◌^◌, Bool, ◌||◌, ◌==◌, List, length, take, Option, Some, None, IsTrue, IsFalse, nat_lt, codes, if◌then◌else◌}
+use Rattle.std.specs.Prelude.{◌≡◌, ℕ, ◌<◌, ◌^◌, Bool, ◌||◌, ◌==◌, List, [], ◌∷◌, ◌++◌, length, take, Option, Some, None, IsTrue, IsFalse, nat_lt, codes, if◌then◌else◌}
 use Rattle.std.specs.Char.{is_ascii_alphanumeric}
-use Rattle.std.specs.List.{Contains, list_all, AllByRecursion}
+use Rattle.std.specs.List.{Contains, list_all, flat_map, AllByRecursion}
 use Rattle.std.specs.Str.{str_eq_ignore_ascii_case, all_ascii_digits}
 use Rattle.rad_tables.specs.declared.attributes.AttrId.{AttrId}
 use Rattle.rad_tables.specs.declared.attributes.Space.{Space}
@@ -15,6 +15,9 @@ use Rattle.rad_value.specs.declared.values.Pair.{Pair}
 use Rattle.rad_dict.specs.declared.definitions.AttrDef.{AttrDef}
 use Rattle.rad_dict.specs.declared.definitions.ValueDef.{ValueDef}
 use Rattle.rad_dict.specs.Definitions.{Definitions, definition_of}
+use Rattle.rad_pairs.specs.declared.items.Item.{Item}
+use Rattle.rad_pairs.specs.declared.items.PairOp.TheVariants as op
+use Rattle.rad_pairs.specs.ValueText.{pair_text}
 
 -- An ASCII letter, a digit, `-`, `_`, `.`, `/` or `+`.
 abbrev pub is_name_octet : ℕ → Bool
@@ -88,3 +91,15 @@ pub record IsOfKind (pair : Pair) (dict : Definitions) : Type 0 where
   pub kind : kind_of pair.attr dict ≡ Some (kind_of_value pair.value)
   pub value : InRange pair.value
   pub space : IsSpace pair.attr.space
+
+-- What a printed pair is read as.
+abbrev pub item_of : Pair → Item
+item_of pair = record { attr = pair.attr; op = op.Eq; value = pair.value }
+
+-- Pairs in print, each with a line end behind it.
+abbrev pub lines_text : List Pair → Definitions → List ℕ
+lines_text pairs dict = flat_map (λ (pair : Pair). pair_text pair dict ++ 10 ∷ []) pairs
+
+-- All of the pairs are of their kinds.
+abbrev pub AreOfKind : List Pair → Definitions → Type 0
+AreOfKind pairs dict = AllByRecursion (λ (pair : Pair). IsOfKind pair dict) pairs

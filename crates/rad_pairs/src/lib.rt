@@ -18,7 +18,7 @@ mod words;
 
 pub use fault::{PairFault, Spot, ValueFault};
 pub use items::{Item, ItemList, PairOp};
-pub use laws::a_printed_pair_is_read_back;
+pub use laws::printed_pairs_are_read_back;
 pub use pair_reading::read_pairs;
 pub use printing::{print_pair, print_value};
 pub use value_reading::read_value;

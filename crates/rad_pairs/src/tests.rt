@@ -482,3 +482,54 @@ fn pairs_of_texts_are_printed(rt: HostRuntime) -> Result<(), Fail> {
     }
     Ok(())
 }
+
+/// The letter of a kind's values.
+fn letter_of(kind: Kind) -> u8 {
+    match kind {
+        Kind::Text => b't',
+        Kind::Octets => b'o',
+        Kind::Addr => b'a',
+        Kind::Number => b'n',
+        Kind::Date => b'd',
+        Kind::Byte => b'b',
+        Kind::Short => b'h',
+    }
+}
+
+/// Prints a value of the attribute's kind, reads it, and compares.
+fn check_read_back(
+    rt: &impl Abort,
+    alloc: Global,
+    attr: AttrId,
+    number: u32,
+) -> Result<(), NoMemory> {
+    let dict = Dict::base(alloc)?;
+    let kind = match dict.attr_of(attr) {
+        Some(row) => row.kind,
+        None => Kind::Octets,
+    };
+    let value = value_of(alloc, letter_of(kind), b"a\"\\\n'\xff0x, #", number)?;
+    let mut expected = Vec::new(alloc);
+    push_attr(alloc, &mut expected, attr)?;
+    expected.extend_from_slice(b" = ")?;
+    push_value(alloc, &mut expected, &value)?;
+    expected.push(b';')?;
+    let text = print_pair(alloc, &Pair { attr, value }, &dict)?;
+    let shown = shown(alloc, &read_pairs(alloc, text.as_slice(), &dict))?;
+    assert_eq!(rt; shown.as_slice(), expected.as_slice(), "attribute {attr:?}");
+    Ok(())
+}
+
+#[test]
+fn printed_pairs_of_the_base_are_read_back(rt: HostRuntime) -> Result<(), Fail> {
+    for number in 0..256 {
+        for space in [Space::Standard, Space::Vendor(4294967295)] {
+            check_read_back(&rt, rt.alloc(), AttrId { space, number }, number % 20)?;
+        }
+    }
+    for number in 1..16 {
+        let space = Space::Internal;
+        check_read_back(&rt, rt.alloc(), AttrId { space, number }, number)?;
+    }
+    Ok(())
+}
