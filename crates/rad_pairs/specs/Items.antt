@@ -37,7 +37,7 @@ abbrev pub Gives : {X Y : Type 0} → (X → Y) → Result X PartError → Resul
 Gives view (Ok x) read = read ≡ Ok (view x)
 Gives view (Err e) read = Fails e read
 
--- How many octets are left from the place of what is wrong on.
+-- How many octets are left from the place of what is wrong on; none where memory ran out.
 abbrev pub octets_left : Wrong → ℕ
 octets_left (UnknownAttr left) = left
 octets_left (BadOperator left) = left
@@ -91,6 +91,7 @@ abbrev pub fault_at : List ℕ → PartError → PairFault
 fault_at text errors.NoMemory = fault.NoMemory
 fault_at text (errors.Wrong wrong) = fault_of text wrong
 
+-- The pairs, or what is wrong with its place.
 abbrev pub placed : List ℕ → Result (List Item) Wrong → Result (List Item) PairFault
 placed text (Ok items) = Ok items
 placed text (Err wrong) = Err (fault_of text wrong)

@@ -1,6 +1,7 @@
 -- The operator and the value of a pair. After users(5); that what `=*` and `!*` have is passed over is this
 -- project's own.
 use Rattle.std.specs.Prelude.{ℕ, Bool, true, List, [], ◌∷◌, Option, Some, None, if◌then◌else◌}
+use Rattle.std.specs.Option.{option_map}
 use Rattle.rad_value.specs.declared.values.Value.{Value}
 use Rattle.rad_value.specs.declared.values.Value.TheVariants as value
 use Rattle.rad_dict.specs.Definitions.{Definitions}
@@ -19,19 +20,30 @@ abbrev pub is_missing : List ℕ → Bool
 is_missing [] = true
 is_missing (c ∷ rest) = is_separator c
 
--- The value of a word, where there is one, behind an operator: a pattern is a text, and what `=*` and `!*` have is
--- passed over.
+-- A word that is read for the attribute, and a word that is a pattern: both have to be there.
+abbrev pub value_in : AttrKind → Option (List ℕ) → Definitions → Option Value
+value_in attr word dict = word >>= λ text. value_of attr.kind attr.id text dict
+
+abbrev pub pattern_in : Option (List ℕ) → Option Value
+pattern_in word = option_map value.Text word
+
+-- The value of a word, where there is one, behind an operator. What `=*` and `!*` have is passed over.
 abbrev pub value_behind : PairOp → AttrKind → Option (List ℕ) → Definitions → Option Value
+value_behind op.Eq attr word dict = value_in attr word dict
+value_behind op.Set attr word dict = value_in attr word dict
+value_behind op.Append attr word dict = value_in attr word dict
+value_behind op.Equal attr word dict = value_in attr word dict
+value_behind op.Differs attr word dict = value_in attr word dict
+value_behind op.Lt attr word dict = value_in attr word dict
+value_behind op.Le attr word dict = value_in attr word dict
+value_behind op.Gt attr word dict = value_in attr word dict
+value_behind op.Ge attr word dict = value_in attr word dict
+value_behind op.Match attr word dict = pattern_in word
+value_behind op.NoMatch attr word dict = pattern_in word
 value_behind op.Any attr word dict = Some (value.Text [])
 value_behind op.None attr word dict = Some (value.Text [])
-value_behind op.Match attr None dict = None
-value_behind op.Match attr (Some word) dict = Some (value.Text word)
-value_behind op.NoMatch attr None dict = None
-value_behind op.NoMatch attr (Some word) dict = Some (value.Text word)
-value_behind _ attr None dict = None
-value_behind _ attr (Some word) dict = value_of attr.kind attr.id word dict
 
--- What follows a pair: behind blanks a comma or a line end, which are passed, or the text's end.
+-- What follows a pair, from behind its blanks on: a comma or a line end, which are passed, or the text's end.
 abbrev pub separated : List ℕ → Option (List ℕ)
 separated [] = Some []
 separated (c ∷ rest) = if is_separator c then Some rest else None
