@@ -1,0 +1,13 @@
+pub mod DigitLemmas
+pub mod DigitPairs
+pub mod WordLemmas
+pub mod Turns
+pub mod Lookups
+pub mod Decimals
+pub mod Names
+pub mod Quoted
+pub mod Hexadecimals
+pub mod Addresses
+pub mod Attributes
+pub mod Values
+pub mod ReadBack

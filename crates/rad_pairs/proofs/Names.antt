@@ -1,0 +1,122 @@
+-- Names and bare words: all of their octets are name octets.
+use Rattle.std.proofs.Common.{◌≡◌, ℕ, suc, ◌<◌, ◌≤◌, ◌^◌, Bool, true, false, ◌&&◌, ◌||◌, eqb, List, [], ◌∷◌, ◌++◌, length, Some, None, refl, sym, ap, ◌∙◌, arith}
+use Rattle.std.specs.Prelude.{slice_index}
+use Rattle.std.specs.Option.{is_some}
+use Rattle.std.specs.List.{list_all}
+use Rattle.std.specs.Char.{digit_value, digit_char}
+use Rattle.std.specs.Fmt.{decimal}
+use Rattle.std.specs.Str.Parse.{AllDigits}
+use Rattle.std.proofs.lemmas.Bool.{true≢false, cond-false, le-leb, ne_eqb, and_from, and_parts, or_from, agree_below_at}
+use Rattle.std.proofs.lemmas.Bool.Decides.{nat_tests}
+use Rattle.std.proofs.lemmas.Fmt.{decimal_is_IsNumeral}
+use Rattle.std.proofs.lemmas.List.{take_at, drop_at}
+use Rattle.std.proofs.lemmas.List.Folds.{list_all-append}
+use Rattle.rad_pairs.specs.ReadingBack.{is_name_octet, IsName}
+use Rattle.rad_pairs.specs.Operators.{long_operator, short_operator, operator_at}
+use Rattle.rad_pairs.specs.Words.{is_blank, is_separator, ends_word, after_blanks, word_len, name_len, word_at}
+
+abbrev pub are_name_octets : List ℕ → Bool
+are_name_octets octets = list_all is_name_octet octets
+
+-- An octet of a name is no other sign.
+is_not : (c sign : ℕ) → is_name_octet c ≡ true → is_name_octet sign ≡ false → eqb c sign ≡ false
+is_not c sign name other = ne_eqb c sign (λ e. true≢false (sym name ∙ ap is_name_octet e ∙ other))
+
+no_end : (c : ℕ) → is_name_octet c ≡ true → ends_word c ≡ false
+no_end c name =
+    or_from (is_blank c) (is_separator c) (or_from (eqb c 32) (eqb c 9) (is_not c 32 name refl) (is_not c 9 name refl))
+    (or_from (eqb c 44) (eqb c 10) (is_not c 44 name refl) (is_not c 10 name refl))
+
+and-false : (b : Bool) → (b && false) ≡ false
+and-false true = refl
+and-false false = refl
+
+no_long : (c d : ℕ) → is_name_octet c ≡ true → eqb d 61 ≡ false → long_operator c d ≡ None
+unfolding long_operator
+no_long c d name next =
+    let e58 = is_not c 58 name refl in
+    let e61 = is_not c 61 name refl in
+    let e33 = is_not c 33 name refl in
+    let e60 = is_not c 60 name refl in
+    let e62 = is_not c 62 name refl in
+    simp (e58, e61, e33, e60, e62, next, and-false)
+
+no_short : (c : ℕ) → is_name_octet c ≡ true → short_operator c ≡ None
+unfolding short_operator
+no_short c name = simp (is_not c 61 name refl, is_not c 60 name refl, is_not c 62 name refl)
+
+no_operator : (c : ℕ) (rest : List ℕ) → is_name_octet c ≡ true → eqb (slice_index rest 0) 61 ≡ false → is_some (operator_at (c ∷ rest)) ≡ false
+unfolding operator_at
+no_operator c rest name next = rw (no_long c (slice_index rest 0) name next, no_short c name, operator_at) refl
+
+next_octet : (name more : List ℕ) → are_name_octets name ≡ true → eqb (slice_index (name ++ 32 ∷ more) 0) 61 ≡ false
+next_octet [] more all = refl
+next_octet (c ∷ name) more all = is_not c 61 (and_parts (is_name_octet c) (are_name_octets name) all).0 refl
+
+pub name_len_is : (name more : List ℕ) → are_name_octets name ≡ true → name_len (name ++ 32 ∷ more) ≡ length name
+unfolding name_len
+name_len_is [] more all = refl
+name_len_is (c ∷ name) more all =
+    let parts = and_parts (is_name_octet c) (are_name_octets name) all in
+    let goes : (ends_word c || is_some (operator_at (c ∷ (name ++ 32 ∷ more)))) ≡ false = or_from (ends_word c) (is_some (operator_at (c ∷ (name ++ 32 ∷ more)))) (no_end c parts.0) (no_operator c (name ++ 32 ∷ more) parts.0 (next_octet name more parts.1)) in
+    cond-false _ _ _ goes ∙ ap suc (name_len_is name more parts.1)
+
+word_len_is : (word tail : List ℕ) → are_name_octets word ≡ true → word_len tail ≡ 0 → word_len (word ++ tail) ≡ length word
+unfolding word_len
+word_len_is [] tail all ends = ends
+word_len_is (c ∷ word) tail all ends =
+    let parts = and_parts (is_name_octet c) (are_name_octets word) all in
+    cond-false _ _ _ (no_end c parts.0) ∙ ap suc (word_len_is word tail parts.1 ends)
+
+-- A name is a bare word.
+pub word_is : (word tail : List ℕ) → IsName word → word_len tail ≡ 0 → word_at (word ++ tail) ≡ Some (word, tail)
+unfolding word_at
+word_is [] tail name ends = absurd (omega (arith, name.0))
+word_is (c ∷ word) tail name ends =
+    let first = (and_parts (is_name_octet c) (are_name_octets word) name.1).0 in
+    rw (is_not c 34 first refl, is_not c 39 first refl, word_len_is (c ∷ word) tail name.1 ends, take_at (c ∷ word) tail (length (c ∷ word)) refl, drop_at (c ∷ word) tail (length (c ∷ word)) refl) refl
+
+-- No blank stands before a name.
+pub no_blanks : (name more : List ℕ) → IsName name → after_blanks (name ++ more) ≡ name ++ more
+unfolding after_blanks
+no_blanks [] more name = absurd (omega (arith, name.0))
+no_blanks (c ∷ rest) more name =
+    let first = (and_parts (is_name_octet c) (are_name_octets rest) name.1).0 in
+    cond-false _ _ _ (or_from (eqb c 32) (eqb c 9) (is_not c 32 first refl) (is_not c 9 first refl))
+
+-- A name is no separator's beginning.
+pub no_separator : (c : ℕ) (rest : List ℕ) → IsName (c ∷ rest) → is_separator c ≡ false
+no_separator c rest name =
+    let first = (and_parts (is_name_octet c) (are_name_octets rest) name.1).0 in
+    or_from (eqb c 44) (eqb c 10) (is_not c 44 first refl) (is_not c 10 first refl)
+
+pub joined : (a b : List ℕ) → are_name_octets a ≡ true → are_name_octets b ≡ true → are_name_octets (a ++ b) ≡ true
+joined a b first second = list_all-append is_name_octet a b ∙ and_from (are_name_octets a) (are_name_octets b) first second
+
+-- Digits.
+pub digit_range : (c : ℕ) → digit_value c < 10 → (48 ≤ c) × (c < 58)
+digit_range c lt = grind (arith, nat_tests)
+
+digit_named : (c : ℕ) → digit_value c < 10 → is_name_octet c ≡ true
+digit_named c lt =
+    let range = digit_range c lt in
+    rw (le-leb 48 c range.0, le-leb c 57 (omega (arith, range.1))) refl
+
+digits_named : (digits : List ℕ) → AllDigits 10 digits → are_name_octets digits ≡ true
+digits_named [] all = refl
+digits_named (c ∷ digits) all = and_from (is_name_octet c) (are_name_octets digits) (digit_named c all.0) (digits_named digits all.1)
+
+pub decimal_octets : (n : ℕ) → n < 2 ^ 32 → are_name_octets (decimal n) ≡ true
+decimal_octets n lt = digits_named (decimal n) (decimal_is_IsNumeral n (omega arith)).0.1
+
+pub decimal_name : (n : ℕ) → n < 2 ^ 32 → IsName (decimal n)
+decimal_name n lt = ((decimal_is_IsNumeral n (omega arith)).0.0, decimal_octets n lt)
+
+pub no_hexadecimal : (digits : List ℕ) → AllDigits 10 digits → eqb (slice_index digits 1) 120 ≡ false
+no_hexadecimal [] all = refl
+no_hexadecimal (c ∷ []) all = refl
+no_hexadecimal (c ∷ d ∷ digits) all = ne_eqb d 120 (λ e. omega (arith, (digit_range d all.1.0).1, e))
+
+-- The digits that write an octet.
+pub hexadecimal_digit : (d : ℕ) → d < 16 → is_name_octet (digit_char d) ≡ true
+hexadecimal_digit d lt = agree_below_at (λ d. is_name_octet (digit_char d)) (λ d. true) 16 d refl lt

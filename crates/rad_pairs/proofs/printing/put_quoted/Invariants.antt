@@ -1,0 +1,7 @@
+use Rattle.std.proofs.Common.{◌≡◌, ◌++◌, ◌∷◌, [], take}
+use Rattle.std.specs.List.{flat_map}
+use Rattle.rad_pairs.specs.ValueText.{escaped}
+use Rattle.rad_pairs.proofs.printing.put_quoted.Given as goal
+
+abbrev pub invariant-loop-octet : goal.invariant-loop-octet
+invariant-loop-octet l = l.text.items ≡ (l.fn.text.items ++ 34 ∷ []) ++ flat_map escaped (take l.octet-index l.octets)

@@ -1,0 +1,198 @@
+//! Texts of pairs that are read.
+
+ghost use Rattle.std.specs.Prelude.{◌≡◌, ◌++◌, ◌≤◌, ◌<◌, length, IfOk, IfErr, OnOk, IfSome};
+ghost use Rattle.std.specs.Option.{option_map, option_to_list};
+ghost use Rattle.rad_pairs.specs.ValueReading as values;
+ghost use Rattle.rad_pairs.specs.PairParts.{is_missing, value_behind, separated, value_at, operator_of};
+ghost use Rattle.rad_pairs.specs.Items.{Gives, value_fault, pair_at, part_at, error_left, fault_at, items_of, IsAnswer};
+
+use crate::attr_reading::{AttrKind, named};
+use crate::fault::{PartError, Wrong};
+use crate::operators::{Operator, operator_at};
+use crate::spots::spot_of;
+use crate::value_reading::value_of;
+use crate::words::{after_blanks, is_separator, name_len, word_at};
+use crate::{Item, ItemList, PairFault, PairOp, ValueFault};
+use rad_dict::Dict;
+use rad_edge::Octets;
+use rad_value::Value;
+use std::alloc::Global;
+
+/// Whether no value stands at the front.
+fn is_missing(text: &[u8]) -> bool
+    ensures { result ≡ is_missing text.now }
+{
+    match text {
+        [] => true,
+        [octet, ..] => is_separator(*octet),
+    }
+}
+
+/// The value of a word, where there is one, behind an operator.
+fn value_behind(
+    alloc: Global,
+    op: PairOp,
+    attr: AttrKind,
+    word: Option<Octets>,
+    dict: &Dict,
+) -> Result<Value, ValueFault>
+    ensures { values.Gives (λ value. value) result (value_behind op attr word dict.now) }
+{
+    match (op, word) {
+        (PairOp::Any | PairOp::None, _) => Ok(Value::Text(Octets::from_vec(Vec::new(alloc)))),
+        (_, None) => Err(ValueFault::BadValue),
+        (PairOp::Match | PairOp::NoMatch, Some(word)) => Ok(Value::Text(word)),
+        (_, Some(word)) => value_of(alloc, attr, word.as_slice(), dict),
+    }
+}
+
+/// What follows a pair, from behind the blanks after it on.
+fn separated(text: &[u8]) -> Option<&[u8]>
+    ensures exact { option_map (λ x. x.now) result ≡ separated text.now }
+    ensures shorter { IfSome result (λ x. length x.now ≤ length text.now) }
+{
+    match text {
+        [] => Some(text),
+        [octet, rest @ ..] if is_separator(*octet) => Some(rest),
+        _ => None,
+    }
+}
+
+/// The value at the front, and what follows its pair.
+#[tactic(auto, unfolding(crate::specs::PairParts::value_at))]
+fn value_at<'a>(
+    alloc: Global,
+    op: PairOp,
+    attr: AttrKind,
+    text: &'a [u8],
+    dict: &Dict,
+) -> Result<(Value, &'a [u8]), ValueFault>
+    ensures exact { values.Gives (λ x. (x.0, x.1.now)) result (value_at op attr text.now dict.now) }
+    ensures shorter { IfOk result (λ x. length x.1.now ≤ length text.now) }
+{
+    let (word, rest) = word_at(alloc, text)?;
+    let word = if is_missing(text) { None } else { Some(word) };
+    let value = value_behind(alloc, op, attr, word, dict)?;
+    let rest = separated(after_blanks(rest)).ok_or(ValueFault::BadValue)?;
+    Ok((value, rest))
+}
+
+/// The operator of a pair at the front, and what follows it.
+#[tactic(auto, unfolding(crate::specs::PairParts::operator_of))]
+fn operator_of(text: &[u8]) -> Option<(PairOp, &[u8])>
+    ensures exact { option_map (λ x. (x.0, x.1.now)) result ≡ operator_of text.now }
+    ensures shorter { IfSome result (λ x. length x.1.now < length text.now) }
+{
+    match operator_at(text)? {
+        (Operator::OfPair(op), rest) => Some((op, rest)),
+        (Operator::Remove, _) => None,
+    }
+}
+
+/// The value's fault, at the value.
+fn value_fault(fault: ValueFault, left: usize) -> PartError
+    ensures { result ≡ value_fault fault left }
+{
+    match fault {
+        ValueFault::BadValue => PartError::Wrong(Wrong::BadValue(left)),
+        ValueFault::NoMemory => PartError::NoMemory,
+    }
+}
+
+/// A pair, and what follows it.
+#[tactic(auto, unfolding(crate::specs::Items::pair_at))]
+fn pair_at<'a>(alloc: Global, text: &'a [u8], dict: &Dict) -> Result<(Item, &'a [u8]), PartError>
+    ensures exact { Gives (λ x. (x.0, x.1.now)) result (pair_at text.now dict.now) }
+    ensures shorter { IfOk result (λ x. length x.1.now < length text.now) }
+    ensures inside { IfErr result (λ fault. error_left fault ≤ length text.now) }
+{
+    let (name, rest) = text.split_at(name_len(text));
+    let Some(attr) = named(name, dict) else {
+        return Err(PartError::Wrong(Wrong::UnknownAttr(text.len())));
+    };
+    let Some((op, after)) = operator_of(after_blanks(rest)) else {
+        return Err(PartError::Wrong(Wrong::BadOperator(rest.len())));
+    };
+    let start = after_blanks(after);
+    match value_at(alloc, op, attr, start, dict) {
+        Ok((value, rest)) => Ok((
+            Item {
+                attr: attr.id,
+                op,
+                value,
+            },
+            rest,
+        )),
+        Err(fault) => Err(value_fault(fault, start.len())),
+    }
+}
+
+/// A part of a text, and what follows it.
+#[tactic(auto, unfolding(crate::specs::Items::part_at))]
+fn part_at<'a>(
+    alloc: Global,
+    text: &'a [u8],
+    dict: &Dict,
+) -> Result<(Option<Item>, &'a [u8]), PartError>
+    requires { 0 < length text.now }
+    ensures exact { Gives (λ x. (x.0, x.1.now)) result (part_at text.now dict.now) }
+    ensures shorter { IfOk result (λ x. length x.1.now < length text.now) }
+    ensures inside { IfErr result (λ fault. error_left fault ≤ length text.now) }
+{
+    let start = after_blanks(text);
+    match start {
+        [] => Ok((None, start)),
+        [b'\n', rest @ ..] => Ok((None, rest)),
+        _ => {
+            let (item, rest) = pair_at(alloc, start, dict)?;
+            Ok((Some(item), rest))
+        }
+    }
+}
+
+/// Adds an item, where there is one.
+fn add(items: &mut Vec<Item>, item: Option<Item>) -> Result<(), PairFault>
+    ensures ok { OnOk result (items.new.items ≡ items.old.items ++ option_to_list item) }
+    ensures err { IfErr result (λ fault. fault ≡ PairFault.NoMemory) }
+{
+    if let Some(item) = item {
+        match items.push(item) {
+            Ok(()) => {}
+            Err(_refused) => return Err(PairFault::NoMemory),
+        }
+    }
+    Ok(())
+}
+
+/// Why a part could not be read, with its place in the text.
+fn fault_at(text: &[u8], error: PartError) -> PairFault
+    requires { error_left error ≤ length text.now }
+    ensures { result ≡ fault_at text.now error }
+{
+    match error {
+        PartError::Wrong(Wrong::UnknownAttr(left)) => PairFault::UnknownAttr(spot_of(text, left)),
+        PartError::Wrong(Wrong::BadOperator(left)) => PairFault::BadOperator(spot_of(text, left)),
+        PartError::Wrong(Wrong::BadValue(left)) => PairFault::BadValue(spot_of(text, left)),
+        PartError::NoMemory => PairFault::NoMemory,
+    }
+}
+
+/// The pairs of a text, `NAME OPERATOR VALUE`, parted by commas or line ends, as users(5) and radclient(1) write
+/// them, in reading order; or the first fault at its place. For each pair UnknownAttr comes before BadOperator, and
+/// that before BadValue.
+pub fn read_pairs(alloc: Global, text: &[u8], dict: &Dict) -> Result<ItemList, PairFault>
+    ensures { IsAnswer (items_of text.now dict.now) result }
+{
+    let mut items = Vec::new(alloc);
+    let mut rest = text;
+    while !rest.is_empty() {
+        match part_at(alloc, rest, dict) {
+            Ok((item, after)) => {
+                add(&mut items, item)?;
+                rest = after;
+            }
+            Err(error) => return Err(fault_at(text, error)),
+        }
+    }
+    Ok(ItemList::from_vec(items))
+}

@@ -1,0 +1,3 @@
+mod printing;
+mod reading;
+mod showing;
