@@ -12,7 +12,7 @@ use Rattle.rad_tables.specs.declared.attributes.Space.{Space}
 use Rattle.rad_tables.specs.declared.attributes.Space.TheVariants.{Standard, Vendor, Internal}
 use Rattle.rad_value.specs.declared.values.Pair.{Pair}
 use Rattle.rad_wire.specs.Packet.{Attribute, AreAttributes, IsPacket, IsWellFormed, authenticator_of, code_of, id_of, spelled}
-use Rattle.rad_wire.specs.Octets.{empty_reply_octets, proxy_states, reply_head, response_authenticator, signed_reply}
+use Rattle.rad_wire.specs.Octets.{proxy_states, reply_head, response_authenticator, signed_reply}
 use Rattle.rad_wire.specs.Reply.{attributes_for, fitting, is_left_out, proxy_state_attributes, reply_attributes, reply_octets, room_beside, sent_attributes}
 use Rattle.rad_wire.specs.Values.{octets_of}
 use Rattle.rad_wire.proofs.AttributeLists.{packet_reading}
@@ -148,11 +148,6 @@ reply_signed code pairs request secret =
     let body = flat_map spelled (reply_attributes pairs request) in
     rw (signed_rest code (id_of request) (authenticator_of request) body secret)
     (signed_authenticator code (id_of request) (authenticator_of request) body secret)
-
--- a reply without pairs
-pub reply_empty : (code : ℕ) (request secret : List ℕ) → reply_octets code [] request secret ≡ empty_reply_octets code request secret
-unfolding fitting reply_attributes reply_octets
-reply_empty code request secret = refl
 
 -- ---- written in place
 

@@ -27,11 +27,6 @@ proxy_octets attributes = flat_map spelled (filter (λ (a : Attribute). a.kind =
 abbrev pub proxy_states : List ℕ → List ℕ
 proxy_states request = proxy_octets (attributes_of request)
 
--- The reply of a code that carries nothing but what every reply carries.
-abbrev pub empty_reply_octets : ℕ → List ℕ → List ℕ → List ℕ
-empty_reply_octets code request secret =
-    signed_reply code (id_of request) (authenticator_of request) (proxy_states request) secret
-
 -- A checked packet is well formed, and its code and identifier are its first two octets.
 pub record IsChecked (packet : Checked) : Type 0 where
   pub code : packet.code ≡ code_of packet.octets.now

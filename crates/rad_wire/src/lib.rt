@@ -27,7 +27,7 @@ pub use laws::{
     attributes_have_one_reading, authentic_has_no_cause, replies_are_decoded, replies_are_packets,
     vendor_parts_have_one_reading,
 };
-pub use reply::{empty_reply, reply_bytes};
+pub use reply::reply_bytes;
 
 #[cfg(test)]
 mod decoding_tests;

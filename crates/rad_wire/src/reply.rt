@@ -1,7 +1,7 @@
 ghost use Rattle.std.specs.Prelude.{◌≡◌, ◌≤◌, ◌++◌, length, drop, IfOk};
 ghost use Rattle.md5.specs.Md5.{md5};
 ghost use Rattle.rad_wire.specs.Packet.{authenticator_of, code_of, id_of, IsWellFormed};
-ghost use Rattle.rad_wire.specs.Octets.{IsChecked, empty_reply_octets, response_authenticator, signed_reply};
+ghost use Rattle.rad_wire.specs.Octets.{IsChecked, response_authenticator, signed_reply};
 ghost use Rattle.rad_wire.specs.Reply.{reply_octets};
 
 use crate::checking::Checked;
@@ -67,21 +67,4 @@ fn digest_of_two(front: &[u8], back: &[u8]) -> [u8; 16]
     hasher.update(front);
     hasher.update(back);
     hasher.finalize()
-}
-
-/// The octets of a reply that carries nothing but the request's Proxy-State attributes, signed with the Response
-/// Authenticator (RFC 2865 sections 3 and 5.33). At most 4,096 octets.
-pub fn empty_reply(
-    alloc: Global,
-    code: u8,
-    request: &Checked,
-    secret: &[u8],
-) -> Result<Octets, NoMemory>
-    requires { IsChecked request.now }
-    ensures octets { IfOk result (λ reply. reply ≡ empty_reply_octets code request.now.octets.now secret.now) }
-    ensures well_formed { IfOk result IsWellFormed }
-    ensures signed { IfOk result (λ reply. authenticator_of reply ≡ response_authenticator code request.now.id
-        (authenticator_of request.now.octets.now) (drop 20 reply) secret.now) }
-{
-    reply_bytes(alloc, code, &Lists::new(alloc), request, secret)
 }

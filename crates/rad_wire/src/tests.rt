@@ -3,6 +3,7 @@
 use super::*;
 use crate::fixtures::a_client;
 use rad_edge::ListenKind;
+use rad_value::Lists;
 use std::test::Fail;
 
 /// The Access-Request of RFC 2865 section 7.1.
@@ -93,7 +94,13 @@ fn replies_are_signed_and_carry_proxy_states(rt: HostRuntime) -> Result<(), Fail
         let Ok(request) = check(bytes, Some(&client), ListenKind::Auth) else {
             return Err(Fail::from("dropped"));
         };
-        let reply = empty_reply(rt.alloc(), code, &request, client.secret.as_slice())?;
+        let reply = reply_bytes(
+            rt.alloc(),
+            code,
+            &Lists::new(rt.alloc()),
+            &request,
+            client.secret.as_slice(),
+        )?;
         assert_eq!(rt; reply.as_slice(), expected, "at {bytes:?}");
     }
     Ok(())
