@@ -8,6 +8,7 @@ mod base_attributes;
 mod base_values;
 mod definitions;
 mod dictionary;
+mod index;
 
 pub use definitions::{AttrDef, ValueDef};
 pub use dictionary::Dict;
