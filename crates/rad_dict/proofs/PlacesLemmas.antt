@@ -37,6 +37,7 @@ pub places_with : (old new : ℕ → List ℕ) (keys : List ℕ) (key : ℕ) →
 places_with old new keys key before same others q = by_cases (eqb key q) refl where
   at_key : new key ≡ places_of key (keys ++ key ∷ [])
   at_key = same ∙ ap (λ xs. xs ++ length keys ∷ []) (before key) ∙ sym (places_of-push_same key keys)
+
   by_cases : (b : Bool) → eqb key q ≡ b → new q ≡ places_of q (keys ++ key ∷ [])
   by_cases true e = let same_one : key ≡ q = eqb-true key q e in subst (λ k. new k ≡ places_of k (keys ++ key ∷ [])) same_one at_key
   by_cases false e = others q e ∙ before q ∙ sym (places_of-push_other q key keys e)

@@ -9,6 +9,8 @@ mod base_values;
 mod definitions;
 mod dictionary;
 mod index;
+mod keys;
+mod search;
 
 pub use definitions::{AttrDef, ValueDef};
 pub use dictionary::Dict;
