@@ -14,7 +14,7 @@ pub fn key_with(key: u64, number: u64) -> u64
 }
 
 /// The key of a name behind another key.
-#[tactic(auto, unfolding(crate::specs::Keys::name_key))]
+#[tactic(auto, unfolding(crate::specs::Keys::octets_key))]
 pub fn name_key(key: u64, name: &[u8]) -> u64
     ensures { result ≡ name_key key name.now }
 {
