@@ -1,10 +1,10 @@
 //! The attributes that every dictionary has.
 
-ghost use Rattle.std.specs.Prelude.{◌≡◌, ◌++◌, map, OnOk};
+ghost use Rattle.std.specs.Prelude.{◌≡◌, ◌++◌, map, IfOk};
 ghost use Rattle.rad_dict.specs.BaseAttributes.{base_attrs};
 ghost use Rattle.rad_dict.specs.Rows.{attr_of_row};
 
-use crate::AttrDef;
+use crate::{AttrDef, Dict};
 use rad_edge::{NoMemory, Octets};
 use rad_tables::{AttrId, Kind, Space};
 use std::alloc::Global;
@@ -89,32 +89,28 @@ const INTERNAL: [AttrRow; 15] = [
     (15, "Tmp-Integer-1", Kind::Number),
 ];
 
-/// Adds the base's attributes.
-pub(crate) fn add_base_attrs(alloc: Global, attrs: &mut Vec<AttrDef>) -> Result<(), NoMemory>
-    ensures { OnOk result (attrs.new.items ≡ attrs.old.items ++ base_attrs) }
+/// The same with the base's attributes.
+pub(crate) fn add_base_attrs(alloc: Global, dict: Dict) -> Result<Dict, NoMemory>
+    ensures { IfOk result (λ new. new ≡ record { attrs = dict.attrs ++ base_attrs; values = dict.values }) }
 {
-    add_rows(alloc, attrs, Space::Standard, &STANDARD)?;
-    add_rows(alloc, attrs, Space::Internal, &INTERNAL)?;
-    Ok(())
+    let dict = add_rows(alloc, dict, Space::Standard, &STANDARD)?;
+    add_rows(alloc, dict, Space::Internal, &INTERNAL)
 }
 
-fn add_rows(
-    alloc: Global,
-    attrs: &mut Vec<AttrDef>,
-    space: Space,
-    rows: &[AttrRow],
-) -> Result<(), NoMemory>
-    ensures { OnOk result (attrs.new.items ≡ attrs.old.items ++ map (attr_of_row space) rows.now) }
+fn add_rows(alloc: Global, dict: Dict, space: Space, rows: &[AttrRow]) -> Result<Dict, NoMemory>
+    ensures { IfOk result (λ new. new ≡ record { attrs = dict.attrs ++ map (attr_of_row space) rows.now; values = dict.values }) }
 {
+    let mut grown = dict;
     for (number, name, kind) in rows {
-        attrs.push(AttrDef {
+        let def = AttrDef {
             id: AttrId {
                 space,
                 number: *number,
             },
             kind: *kind,
             name: Octets::of(alloc, name.as_bytes())?,
-        })?;
+        };
+        grown = grown.with_attr(alloc, def)?;
     }
-    Ok(())
+    Ok(grown)
 }

@@ -1,10 +1,10 @@
 //! The named values that every dictionary has.
 
-ghost use Rattle.std.specs.Prelude.{◌≡◌, ◌++◌, map, OnOk};
+ghost use Rattle.std.specs.Prelude.{◌≡◌, ◌++◌, map, IfOk};
 ghost use Rattle.rad_dict.specs.BaseValues.{base_values};
 ghost use Rattle.rad_dict.specs.Rows.{value_of_row};
 
-use crate::ValueDef;
+use crate::{Dict, ValueDef};
 use rad_edge::{NoMemory, Octets};
 use rad_tables::{AttrId, Space};
 use std::alloc::Global;
@@ -67,25 +67,27 @@ const VALUES: [ValueRow; 51] = [
     (61, 19, "Wireless-802.11"),
 ];
 
-/// Adds the base's named values.
-pub(crate) fn add_base_values(alloc: Global, values: &mut Vec<ValueDef>) -> Result<(), NoMemory>
-    ensures { OnOk result (values.new.items ≡ values.old.items ++ base_values) }
+/// The same with the base's named values.
+pub(crate) fn add_base_values(alloc: Global, dict: Dict) -> Result<Dict, NoMemory>
+    ensures { IfOk result (λ new. new ≡ record { attrs = dict.attrs; values = dict.values ++ base_values }) }
 {
-    add_rows(alloc, values, &VALUES)
+    add_rows(alloc, dict, &VALUES)
 }
 
-fn add_rows(alloc: Global, values: &mut Vec<ValueDef>, rows: &[ValueRow]) -> Result<(), NoMemory>
-    ensures { OnOk result (values.new.items ≡ values.old.items ++ map value_of_row rows.now) }
+fn add_rows(alloc: Global, dict: Dict, rows: &[ValueRow]) -> Result<Dict, NoMemory>
+    ensures { IfOk result (λ new. new ≡ record { attrs = dict.attrs; values = dict.values ++ map value_of_row rows.now }) }
 {
+    let mut grown = dict;
     for (attr, number, name) in rows {
-        values.push(ValueDef {
+        let def = ValueDef {
             attr: AttrId {
                 space: Space::Standard,
                 number: *attr,
             },
             number: *number,
             name: Octets::of(alloc, name.as_bytes())?,
-        })?;
+        };
+        grown = grown.with_value(alloc, def)?;
     }
-    Ok(())
+    Ok(grown)
 }

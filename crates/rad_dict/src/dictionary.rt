@@ -1,14 +1,15 @@
-ghost use Rattle.std.specs.Prelude.{◌≡◌, IfOk, find};
+ghost use Rattle.std.specs.Prelude.{◌≡◌, [], ◌∷◌, ◌++◌, IfOk, find};
 ghost use Rattle.std.specs.Option.{option_copied};
-ghost use Rattle.std.specs.Str.{str_eq_ignore_ascii_case};
-ghost use Rattle.rad_tables.specs.Attribute.{same_attr};
 ghost use Rattle.rad_dict.specs.Base.{base_definitions};
 ghost use Rattle.rad_dict.specs.Definitions.{attr_named, definition_of, is_name_of, is_number_of, name_of, number_of};
 
 use crate::base_attributes::add_base_attrs;
 use crate::base_values::add_base_values;
+use crate::index::Index;
+use crate::keys::{attr_key, key_with, name_key};
+use crate::search::{attr_at, attr_named_at, value_named_at, value_numbered_at};
 use crate::{AttrDef, ValueDef};
-use rad_edge::{NoMemory, Octets};
+use rad_edge::NoMemory;
 use rad_tables::AttrId;
 use std::alloc::Global;
 use std::marker::Model;
@@ -18,14 +19,24 @@ use std::marker::Model;
 pub struct Dict {
     attrs: Vec<AttrDef>,
     values: Vec<ValueDef>,
+    attr_names: Index,
+    attr_ids: Index,
+    value_numbers: Index,
+    value_names: Index,
 }
 
 impl Model for Dict {
     ghost use Rattle.rad_dict.specs.Definitions.{Definitions};
+    ghost use Rattle.std.specs.Prelude.{◌≡◌, map};
+    ghost use Rattle.rad_dict.specs.Keys.{by_name, by_attr, by_value, by_value_name};
 
     ghost Value = { Definitions };
 
     ghost view = { λ d. record { attrs = d.attrs.items; values = d.values.items } };
+
+    ghost invariant = { λ d.
+        (d.attr_names ≡ map by_name d.attrs.items) × (d.attr_ids ≡ map by_attr d.attrs.items)
+        × (d.value_numbers ≡ map by_value d.values.items) × (d.value_names ≡ map by_value_name d.values.items) };
 }
 
 impl Dict {
@@ -34,32 +45,114 @@ impl Dict {
     pub fn base(alloc: Global) -> Result<Dict, NoMemory>
         ensures { IfOk result (λ dict. dict ≡ base_definitions) }
     {
-        let mut attrs = Vec::new(alloc);
-        add_base_attrs(alloc, &mut attrs)?;
-        let mut values = Vec::new(alloc);
-        add_base_values(alloc, &mut values)?;
-        Ok(Dict { attrs, values })
+        let dict = add_base_attrs(alloc, Dict::empty(alloc))?;
+        add_base_values(alloc, dict)
+    }
+
+    /// No attribute and no value.
+    fn empty(alloc: Global) -> Dict
+        ensures attrs { result.attrs ≡ [] }
+        ensures values { result.values ≡ [] }
+    {
+        Dict {
+            attrs: Vec::new(alloc),
+            values: Vec::new(alloc),
+            attr_names: Index::new(alloc),
+            attr_ids: Index::new(alloc),
+            value_numbers: Index::new(alloc),
+            value_names: Index::new(alloc),
+        }
+    }
+
+    /// The same with one more attribute.
+    pub(crate) fn with_attr(self, alloc: Global, def: AttrDef) -> Result<Dict, NoMemory>
+        ensures { IfOk result (λ dict. dict ≡ record { attrs = self.attrs ++ def ∷ []; values = self.values }) }
+    {
+        let Dict {
+            mut attrs,
+            values,
+            attr_names,
+            attr_ids,
+            value_numbers,
+            value_names,
+        } = self;
+        let attr_names = attr_names.with(alloc, name_key(0, def.name.as_slice()))?;
+        let attr_ids = attr_ids.with(alloc, attr_key(def.id))?;
+        attrs.push(def)?;
+        Ok(Dict {
+            attrs,
+            values,
+            attr_names,
+            attr_ids,
+            value_numbers,
+            value_names,
+        })
+    }
+
+    /// The same with one more named value.
+    pub(crate) fn with_value(self, alloc: Global, def: ValueDef) -> Result<Dict, NoMemory>
+        ensures { IfOk result (λ dict. dict ≡ record { attrs = self.attrs; values = self.values ++ def ∷ [] }) }
+    {
+        let Dict {
+            attrs,
+            mut values,
+            attr_names,
+            attr_ids,
+            value_numbers,
+            value_names,
+        } = self;
+        let attr = attr_key(def.attr);
+        let value_numbers = value_numbers.with(alloc, key_with(attr, u64::from(def.number)))?;
+        let value_names = value_names.with(alloc, name_key(attr, def.name.as_slice()))?;
+        values.push(def)?;
+        Ok(Dict {
+            attrs,
+            values,
+            attr_names,
+            attr_ids,
+            value_numbers,
+            value_names,
+        })
     }
 
     /// The attribute of this name, in any case of its ASCII letters.
     pub fn attr(&self, name: &[u8]) -> Option<&AttrDef>
         ensures { option_copied result ≡ attr_named name.now self.now }
     {
-        self.attrs.iter().find(|row| is_named(&row.name, name))
+        let places = self.attr_names.places(name_key(0, name));
+        attr_named_at(self.attrs.as_slice(), places, name)
     }
 
     /// The first definition of this attribute.
     pub fn attr_of(&self, id: AttrId) -> Option<&AttrDef>
         ensures { option_copied result ≡ definition_of id self.now }
     {
-        self.attrs.iter().find(|row| is_attr(row.id, id))
+        let places = self.attr_ids.places(attr_key(id));
+        attr_at(self.attrs.as_slice(), places, id)
+    }
+
+    /// The first row of this value of the attribute.
+    fn numbered(&self, id: AttrId, number: u32) -> Option<&ValueDef>
+        ensures { option_copied result ≡ find (is_number_of id number) self.now.values }
+    {
+        let key = key_with(attr_key(id), u64::from(number));
+        let places = self.value_numbers.places(key);
+        value_numbered_at(self.values.as_slice(), places, id, number)
+    }
+
+    /// The first row of the attribute's value of this name.
+    fn named(&self, id: AttrId, name: &[u8]) -> Option<&ValueDef>
+        ensures { option_copied result ≡ find (is_name_of id name.now) self.now.values }
+    {
+        let places = self.value_names.places(name_key(attr_key(id), name));
+        value_named_at(self.values.as_slice(), places, id, name)
     }
 
     /// The name of this value of the attribute.
     pub fn value_name(&self, id: AttrId, number: u32) -> Option<&[u8]>
         ensures { option_copied result ≡ name_of id number self.now }
     {
-        match numbered(self.values.as_slice(), id, number) {
+        match self.numbered(id, number) {
             Some(row) => Some(row.name.as_slice()),
             None => None,
         }
@@ -69,37 +162,9 @@ impl Dict {
     pub fn value_number(&self, id: AttrId, name: &[u8]) -> Option<u32>
         ensures { result ≡ number_of id name.now self.now }
     {
-        match named(self.values.as_slice(), id, name) {
+        match self.named(id, name) {
             Some(row) => Some(row.number),
             None => None,
         }
     }
-}
-
-fn is_named(text: &Octets, name: &[u8]) -> bool
-    ensures { result ≡ str_eq_ignore_ascii_case text.now name.now }
-{
-    text.as_slice().eq_ignore_ascii_case(name)
-}
-
-fn is_attr(one: AttrId, other: AttrId) -> bool
-    ensures { result ≡ same_attr one other }
-{
-    one == other
-}
-
-fn numbered(values: &[ValueDef], id: AttrId, number: u32) -> Option<&ValueDef>
-    ensures { option_copied result ≡ find (is_number_of id number) values.now }
-{
-    values
-        .iter()
-        .find(|row| is_attr(row.attr, id) && row.number == number)
-}
-
-fn named<'a>(values: &'a [ValueDef], id: AttrId, name: &[u8]) -> Option<&'a ValueDef>
-    ensures { option_copied result ≡ find (is_name_of id name.now) values.now }
-{
-    values
-        .iter()
-        .find(|row| is_attr(row.attr, id) && is_named(&row.name, name))
 }

@@ -8,6 +8,9 @@ mod base_attributes;
 mod base_values;
 mod definitions;
 mod dictionary;
+mod index;
+mod keys;
+mod search;
 
 pub use definitions::{AttrDef, ValueDef};
 pub use dictionary::Dict;

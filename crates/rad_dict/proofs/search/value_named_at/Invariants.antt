@@ -1,0 +1,10 @@
+use Rattle.std.proofs.Common.{◌≡◌, length}
+use Rattle.rad_dict.specs.Definitions.{is_name_of}
+use Rattle.rad_dict.specs.Search.{found_at}
+use Rattle.rad_dict.proofs.search.value_named_at.Given as goal
+
+abbrev pub invariant-loop-place : goal.invariant-loop-place
+invariant-loop-place l = found_at (is_name_of l.id l.name) l.rows l.rest ≡ found_at (is_name_of l.id l.name) l.rows l.places
+
+abbrev pub decreases-loop-place : goal.decreases-loop-place
+decreases-loop-place l = length l.rest
