@@ -8,7 +8,9 @@ use std::sync::Wait;
 use std::test::Fail;
 
 const IDLE: &[u8] = b"requests 0 replies 0 reloads 0 refused 0\n";
+
 const SERVED: &[u8] = b"requests 1 replies 1 reloads 0 refused 0\n";
+
 const SOCKET_FAULT: &[u8] = b"socket fault\n";
 
 /// The numbers from 1 up to this one.
