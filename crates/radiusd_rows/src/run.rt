@@ -69,14 +69,20 @@ pub fn script_of(alloc: Global, from: Peer, datagrams: &[&[u8]]) -> Result<Vec<C
     Ok(script)
 }
 
-/// A crew with one kit of this wire, whose clock says 1000.
-pub fn crew_of(alloc: Global, wire: MemWire) -> Result<Memories, NoMemory> {
+/// A crew with one kit, whose clock says 1000. Its wire has this script and fails at the receives and sends of these
+/// numbers, counted from 1.
+pub fn crew_of(
+    alloc: Global,
+    script: Vec<Cue>,
+    failing_receives: Vec<u64>,
+    failing_sends: Vec<u64>,
+) -> Result<Memories, NoMemory> {
     let mut moments = Vec::new(alloc);
     moments.push(1000)?;
     let mut crew = MemCrew::new(alloc, Vec::new(alloc));
     crew.add(Kit {
         listener: 0,
-        wire,
+        wire: MemWire::new(alloc, script, failing_receives, failing_sends),
         control: None,
         shelf: MemShelf::new(alloc, Vec::new(alloc)),
         clock: ListClock::new(moments),
@@ -122,8 +128,7 @@ pub fn run_with<R: Wait>(
     datagrams: &[&[u8]],
 ) -> Result<Run, NoMemory> {
     let script = script_of(alloc, from, datagrams)?;
-    let wire = MemWire::new(alloc, script, Vec::new(alloc), Vec::new(alloc));
-    let mut crew = crew_of(alloc, wire)?;
+    let mut crew = crew_of(alloc, script, Vec::new(alloc), Vec::new(alloc))?;
     let mut hub = hub_of(alloc)?;
     let out = MemSink::new(alloc, Vec::new(alloc));
     run_over(rt, alloc, words, conf, &mut crew, &mut hub, out)
