@@ -7,6 +7,6 @@ pub(crate) enum Left {
     Ended,
     /// Its wire failed 100 times in a row, and the server was stopped.
     Deaf,
-    /// There was no room for what the next datagram adds to the history.
+    /// There was no memory for what the next ask of the wire may add to the history.
     NoMemory,
 }

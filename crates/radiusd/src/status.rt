@@ -4,7 +4,7 @@ ghost use Rattle.radiusd.specs.Statuses.{number_of};
 /// How a run of the server ended.
 #[derive(Clone, Copy, Debug, PartialEq, Eq)]
 pub(crate) enum Status {
-    /// The wire of the listener ended.
+    /// The wire of the listener ended, or the server was stopped.
     Done,
     /// The words aren't those of the server.
     Words,
@@ -12,7 +12,7 @@ pub(crate) enum Status {
     Configuration,
     /// A file of the configuration couldn't be read.
     ReadFault,
-    /// A socket couldn't be had.
+    /// A socket couldn't be had, or a worker was deaf.
     SocketFault,
     /// A line couldn't be printed.
     PrintFault,
