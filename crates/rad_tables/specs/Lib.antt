@@ -1,3 +1,4 @@
 pub mod ActionList
 pub mod Attribute
 pub mod DefaultActions
+pub mod Names
