@@ -1,7 +1,7 @@
 -- What an edit makes of a list of pairs, one equation for each operator of unlang(5), 'update': `=`, `:=`
 -- and `+=`. That `:=` keeps the place of the first pair, and that a list takes no pair by an edit once it
 -- has 512, are this project's own.
-use Rattle.std.specs.Prelude.{◌≡◌, ◌≤◌, ℕ, Bool, true, not, IsTrue, if◌then◌else◌, List, [], ◌∷◌, ◌++◌, length, filter}
+use Rattle.std.specs.Prelude.{◌≡◌, ◌≤◌, ℕ, Bool, true, not, ◌&&◌, nat_le, IsTrue, if◌then◌else◌, List, [], ◌∷◌, ◌++◌, length, filter, Option, Some, None}
 use Rattle.std.specs.List.{list_any, before_first, after_first}
 use Rattle.rad_tables.specs.declared.attributes.AttrId.{AttrId}
 use Rattle.rad_value.specs.declared.values.Pair.{Pair}
@@ -50,3 +50,12 @@ lists_edited lists edit = with_list lists edit.list (edited (list_of lists edit.
 -- The list that the edit names is full for it: it has n pairs, and one more would come.
 abbrev pub IsFullFor : PairLists → Edit → ℕ → Type 0
 IsFullFor lists edit n = IsFull edit.op edit.attr (list_of lists edit.list) n
+
+-- Whether the list is full for an edit by this operator: it has 512 pairs or more, and one more would come.
+abbrev pub is_full : EditOp → AttrId → List Pair → Bool
+is_full op attr pairs = nat_le 512 (length pairs) && adds op attr pairs
+
+-- The three lists after an edit, or none where the list that it names is full for it.
+unfoldable pub tried : PairLists → Edit → Option PairLists
+tried lists edit =
+    if is_full edit.op edit.attr (list_of lists edit.list) then None else Some (lists_edited lists edit)

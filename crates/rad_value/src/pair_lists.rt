@@ -1,6 +1,6 @@
-ghost use Rattle.std.specs.Prelude.{◌≡◌, ℕ, ◌<◌, ◌≤◌, ◌^◌, ◌↔◌, [], ◌∷◌, ◌++◌, length, slice_get, IfOk, OnOk, OnErr};
+ghost use Rattle.std.specs.Prelude.{◌≡◌, ℕ, ◌<◌, ◌≤◌, ◌^◌, ◌↔◌, [], ◌∷◌, ◌++◌, length, slice_get, MatchBool, IfOk, OnOk, OnErr};
 ghost use Rattle.std.specs.Option.{option_copied};
-ghost use Rattle.rad_value.specs.Edit.{lists_edited, IsFullFor};
+ghost use Rattle.rad_value.specs.Edit.{lists_edited, IsFullFor, tried};
 ghost use Rattle.rad_value.specs.PairLists.{no_pairs, list_of, with_list};
 ghost use Rattle.rad_value.specs.Pairs.{pairs_of, values_of};
 
@@ -122,6 +122,21 @@ impl Lists {
                 length: self.len(edit.list),
             }),
             Err(fault) => Err(fault),
+        }
+    }
+
+    /// Does the edit in the list that it names, and answers whether that list wasn't full for it. Where it was,
+    /// and where memory ran out, the lists are as they were.
+    pub fn try_update(&mut self, edit: &Edit) -> Result<bool, NoMemory>
+        ensures ok { IfOk result (λ done. MatchBool done
+            (tried self.old edit.now ≡ Some self.new)
+            ((tried self.old edit.now ≡ None) × (self.new ≡ self.old))) }
+        ensures err { OnErr result (self.new ≡ self.old) }
+    {
+        match self.update(edit) {
+            Ok(_) => Ok(true),
+            Err(EditFault::ListFull(_)) => Ok(false),
+            Err(EditFault::NoMemory) => Err(NoMemory),
         }
     }
 

@@ -195,6 +195,11 @@ fn a_list_of_512_pairs_takes_no_more_by_an_edit(rt: HostRuntime) -> Result<(), F
     let updated = lists.update(&edit_of(ListName::Control, "+=", b'a', b'7'));
     assert_eq!(rt; updated, Err(EditFault::ListFull(559)));
     assert_eq!(rt; lists.len(ListName::Control), 559);
+    for (sign, letter, done) in [("+=", b'a', false), ("=", b'f', false), (":=", b'e', true)] {
+        let edit = edit_of(ListName::Control, sign, letter, b'7');
+        assert_eq!(rt; lists.try_update(&edit)?, done, "{sign} {letter}");
+    }
+    assert_eq!(rt; lists.len(ListName::Control), 260);
     Ok(())
 }
 
