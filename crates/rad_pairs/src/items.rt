@@ -64,10 +64,18 @@ impl Model for ItemList {
 
 impl ItemList {
     /// The list of a vector's items, which takes no memory.
-    pub(crate) fn from_vec(items: Vec<Item>) -> ItemList
+    pub fn from_vec(items: Vec<Item>) -> ItemList
         ensures { result ≡ items.items }
     {
         ItemList { items }
+    }
+
+    /// The vector of the list's items, which takes no memory.
+    pub fn into_vec(self) -> Vec<Item>
+        ensures { result.items ≡ self }
+    {
+        let ItemList { items } = self;
+        items
     }
 
     /// How many items the list has.
