@@ -1,2 +1,6 @@
 pub mod PlacesLemmas
 pub mod Indexed
+pub mod Statements
+pub mod FirstLines
+pub mod Tellings
+pub mod Readings

@@ -1,10 +1,11 @@
 -- The attributes of the base dictionary, by number, name and kind: RFC 2865 section 5, RFC 2866 section 5,
 -- Event-Timestamp of RFC 2869 section 5.3 and Message-Authenticator of RFC 3579 section 3.2. The internal
 -- ones, which never go on the wire and are numbered from 1, are this project's own, after FreeRADIUS.
-use Rattle.std.specs.Prelude.{ℕ, List, [], ◌∷◌, ◌++◌, codes}
+use Rattle.std.specs.Prelude.{ℕ, List, [], ◌∷◌, ◌++◌, map, codes}
 use Prim.Native.String.{String}
 use Rattle.rad_tables.specs.declared.attributes.Kind.{Kind}
 use Rattle.rad_tables.specs.declared.attributes.Kind.TheVariants.{Text, Octets, Addr, Number, Date}
+use Rattle.rad_tables.specs.Names.{Row}
 use Rattle.rad_tables.specs.declared.attributes.Space.TheVariants.{Standard, Internal}
 use Rattle.rad_dict.specs.declared.definitions.AttrDef.{AttrDef}
 use Rattle.rad_dict.specs.Rows.{attr_def}
@@ -95,3 +96,10 @@ internal_attrs =
 -- The base's attributes, the standard ones first.
 abbrev pub base_attrs : List AttrDef
 base_attrs = standard_attrs ++ internal_attrs
+
+-- The names and numbers of attributes, and their kinds.
+abbrev pub names_of : List AttrDef → List Row
+names_of attrs = map (λ (row : AttrDef). record { name = row.name; number = row.id.number }) attrs
+
+abbrev pub kinds_of : List AttrDef → List Kind
+kinds_of attrs = map (λ (row : AttrDef). row.kind) attrs

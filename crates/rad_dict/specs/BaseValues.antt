@@ -3,8 +3,9 @@
 -- project's own, after FreeRADIUS. The attributes: 6 Service-Type, 7 Framed-Protocol, 10 Framed-Routing,
 -- 13 Framed-Compression, 15 Login-Service, 29 Termination-Action, 40 Acct-Status-Type, 45 Acct-Authentic,
 -- 49 Acct-Terminate-Cause, 61 NAS-Port-Type.
-use Rattle.std.specs.Prelude.{ℕ, List, [], ◌∷◌, codes}
+use Rattle.std.specs.Prelude.{ℕ, ◌==◌, List, [], ◌∷◌, map, filter, codes}
 use Prim.Native.String.{String}
+use Rattle.rad_tables.specs.Names.{Row}
 use Rattle.rad_dict.specs.declared.definitions.ValueDef.{ValueDef}
 use Rattle.rad_dict.specs.Rows.{value_def}
 
@@ -65,3 +66,7 @@ base_values =
     ∷ named 61 15 "Ethernet"
     ∷ named 61 19 "Wireless-802.11"
     ∷ []
+
+-- The names and numbers of one attribute's values.
+abbrev pub value_names : ℕ → List ValueDef → List Row
+value_names attr values = map (λ (row : ValueDef). record { name = row.name; number = row.number }) (filter (λ (row : ValueDef). row.attr.number == attr) values)

@@ -6,3 +6,14 @@ pub mod BaseAttributes
 pub mod BaseValues
 pub mod Definitions
 pub mod Base
+pub mod LineWords
+pub mod LineNumbers
+pub mod NameForms
+pub mod Lines
+pub mod Readings
+pub mod VendorKeys
+pub mod FirstReading
+pub mod Answers
+pub mod Steps
+pub mod TextLines
+pub mod Includes

@@ -1,6 +1,6 @@
 -- What a row of a table of attributes or values defines. This project's own form.
-use Rattle.std.specs.Prelude.{ℕ, List}
-use Rattle.std.specs.Borrow.{Bor}
+use Rattle.std.specs.Prelude.{ℕ, List, [], ◌∷◌, map}
+use Rattle.rad_tables.specs.Names.{Row}
 use Rattle.rad_tables.specs.declared.attributes.Kind.{Kind}
 use Rattle.rad_tables.specs.declared.attributes.Space.{Space}
 use Rattle.rad_tables.specs.declared.attributes.Space.TheVariants.{Standard}
@@ -23,10 +23,12 @@ value_def attr number name = record {
   name = name;
 }
 
--- A row of a number, a name and a kind, in this space.
-abbrev pub attr_of_row : Space → ℕ × Bor (List ℕ) × Kind → AttrDef
-attr_of_row space row = attr_def space row.0 row.2 row.1.now
+-- The attributes of a table of names and numbers and of their kinds, in this space.
+abbrev pub attrs_of : Space → List Row → List Kind → List AttrDef
+attrs_of space [] kinds = []
+attrs_of space (row ∷ rows) [] = []
+attrs_of space (row ∷ rows) (kind ∷ kinds) = attr_def space row.number kind row.name ∷ attrs_of space rows kinds
 
--- A row of an attribute's number, a value's number and a name.
-abbrev pub value_of_row : ℕ × ℕ × Bor (List ℕ) → ValueDef
-value_of_row row = value_def row.0 row.1 row.2.now
+-- The values of a standard attribute, by the table of their names and numbers.
+abbrev pub values_of : ℕ → List Row → List ValueDef
+values_of attr rows = map (λ (row : Row). value_def attr row.number row.name) rows

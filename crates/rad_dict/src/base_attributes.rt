@@ -1,114 +1,177 @@
-//! The attributes that every dictionary has.
+//! The attributes that every dictionary has, in tables of their names and numbers.
 
-ghost use Rattle.std.specs.Prelude.{◌≡◌, ◌++◌, map, IfOk};
-ghost use Rattle.rad_dict.specs.BaseAttributes.{base_attrs};
-ghost use Rattle.rad_dict.specs.Rows.{attr_of_row};
+ghost use Rattle.std.specs.Prelude.{◌≡◌, ◌++◌, length, map, IfOk};
+ghost use Rattle.rad_tables.specs.Names.{row_of, AreInverse};
+ghost use Rattle.rad_dict.specs.BaseAttributes.{standard_attrs, internal_attrs, base_attrs, names_of, kinds_of};
+ghost use Rattle.rad_dict.specs.Rows.{attrs_of};
+ghost use Rattle.rad_dict.specs.Readings.{is_base};
 
 use crate::{AttrDef, Dict};
 use rad_edge::{NoMemory, Octets};
-use rad_tables::{AttrId, Kind, Space};
+use rad_tables::{AttrId, Kind, NameRow, Names, Space, names};
 use std::alloc::Global;
 
-/// A number, a name and a kind.
-type AttrRow = (u32, &'static str, Kind);
+/// The attributes of one space: their names and numbers, and their kinds in the same order.
+#[derive(Drop)]
+struct AttrTable<const N: usize> {
+    names: Names<N>,
+    kinds: [Kind; N],
+}
+
+/// The table of these attributes, each a number, a name as octets and a kind.
+macro_rules! attributes {
+    ($($number:literal $name:literal $kind:ident),* $(,)?) => {
+        AttrTable {
+            names: names![$($number $name),*],
+            kinds: [$(Kind::$kind),*],
+        }
+    };
+}
 
 /// The attributes of RFC 2865 and RFC 2866, and those of RFC 2869 and RFC 3579 that the server uses.
-const STANDARD: [AttrRow; 54] = [
-    (1, "User-Name", Kind::Text),
-    (2, "User-Password", Kind::Text),
-    (3, "CHAP-Password", Kind::Octets),
-    (4, "NAS-IP-Address", Kind::Addr),
-    (5, "NAS-Port", Kind::Number),
-    (6, "Service-Type", Kind::Number),
-    (7, "Framed-Protocol", Kind::Number),
-    (8, "Framed-IP-Address", Kind::Addr),
-    (9, "Framed-IP-Netmask", Kind::Addr),
-    (10, "Framed-Routing", Kind::Number),
-    (11, "Filter-Id", Kind::Text),
-    (12, "Framed-MTU", Kind::Number),
-    (13, "Framed-Compression", Kind::Number),
-    (14, "Login-IP-Host", Kind::Addr),
-    (15, "Login-Service", Kind::Number),
-    (16, "Login-TCP-Port", Kind::Number),
-    (18, "Reply-Message", Kind::Text),
-    (19, "Callback-Number", Kind::Text),
-    (20, "Callback-Id", Kind::Text),
-    (22, "Framed-Route", Kind::Text),
-    (24, "State", Kind::Octets),
-    (25, "Class", Kind::Octets),
-    (26, "Vendor-Specific", Kind::Octets),
-    (27, "Session-Timeout", Kind::Number),
-    (28, "Idle-Timeout", Kind::Number),
-    (29, "Termination-Action", Kind::Number),
-    (30, "Called-Station-Id", Kind::Text),
-    (31, "Calling-Station-Id", Kind::Text),
-    (32, "NAS-Identifier", Kind::Text),
-    (33, "Proxy-State", Kind::Octets),
-    (34, "Login-LAT-Service", Kind::Text),
-    (35, "Login-LAT-Node", Kind::Text),
-    (36, "Login-LAT-Group", Kind::Octets),
-    (37, "Framed-AppleTalk-Link", Kind::Number),
-    (38, "Framed-AppleTalk-Network", Kind::Number),
-    (39, "Framed-AppleTalk-Zone", Kind::Text),
-    (40, "Acct-Status-Type", Kind::Number),
-    (41, "Acct-Delay-Time", Kind::Number),
-    (42, "Acct-Input-Octets", Kind::Number),
-    (43, "Acct-Output-Octets", Kind::Number),
-    (44, "Acct-Session-Id", Kind::Text),
-    (45, "Acct-Authentic", Kind::Number),
-    (46, "Acct-Session-Time", Kind::Number),
-    (47, "Acct-Input-Packets", Kind::Number),
-    (48, "Acct-Output-Packets", Kind::Number),
-    (49, "Acct-Terminate-Cause", Kind::Number),
-    (50, "Acct-Multi-Session-Id", Kind::Text),
-    (51, "Acct-Link-Count", Kind::Number),
-    (55, "Event-Timestamp", Kind::Date),
-    (60, "CHAP-Challenge", Kind::Octets),
-    (61, "NAS-Port-Type", Kind::Number),
-    (62, "Port-Limit", Kind::Number),
-    (63, "Login-LAT-Port", Kind::Text),
-    (80, "Message-Authenticator", Kind::Octets),
-];
+#[tactic(auto, unfolding(crate::specs::BaseAttributes::standard_attrs))]
+fn standard() -> AttrTable<54>
+    ensures names { result.names ≡ names_of standard_attrs }
+    ensures kinds { result.kinds ≡ kinds_of standard_attrs }
+    ensures inverse { AreInverse result.names }
+{
+    attributes![
+        1 b"User-Name" Text,
+        2 b"User-Password" Text,
+        3 b"CHAP-Password" Octets,
+        4 b"NAS-IP-Address" Addr,
+        5 b"NAS-Port" Number,
+        6 b"Service-Type" Number,
+        7 b"Framed-Protocol" Number,
+        8 b"Framed-IP-Address" Addr,
+        9 b"Framed-IP-Netmask" Addr,
+        10 b"Framed-Routing" Number,
+        11 b"Filter-Id" Text,
+        12 b"Framed-MTU" Number,
+        13 b"Framed-Compression" Number,
+        14 b"Login-IP-Host" Addr,
+        15 b"Login-Service" Number,
+        16 b"Login-TCP-Port" Number,
+        18 b"Reply-Message" Text,
+        19 b"Callback-Number" Text,
+        20 b"Callback-Id" Text,
+        22 b"Framed-Route" Text,
+        24 b"State" Octets,
+        25 b"Class" Octets,
+        26 b"Vendor-Specific" Octets,
+        27 b"Session-Timeout" Number,
+        28 b"Idle-Timeout" Number,
+        29 b"Termination-Action" Number,
+        30 b"Called-Station-Id" Text,
+        31 b"Calling-Station-Id" Text,
+        32 b"NAS-Identifier" Text,
+        33 b"Proxy-State" Octets,
+        34 b"Login-LAT-Service" Text,
+        35 b"Login-LAT-Node" Text,
+        36 b"Login-LAT-Group" Octets,
+        37 b"Framed-AppleTalk-Link" Number,
+        38 b"Framed-AppleTalk-Network" Number,
+        39 b"Framed-AppleTalk-Zone" Text,
+        40 b"Acct-Status-Type" Number,
+        41 b"Acct-Delay-Time" Number,
+        42 b"Acct-Input-Octets" Number,
+        43 b"Acct-Output-Octets" Number,
+        44 b"Acct-Session-Id" Text,
+        45 b"Acct-Authentic" Number,
+        46 b"Acct-Session-Time" Number,
+        47 b"Acct-Input-Packets" Number,
+        48 b"Acct-Output-Packets" Number,
+        49 b"Acct-Terminate-Cause" Number,
+        50 b"Acct-Multi-Session-Id" Text,
+        51 b"Acct-Link-Count" Number,
+        55 b"Event-Timestamp" Date,
+        60 b"CHAP-Challenge" Octets,
+        61 b"NAS-Port-Type" Number,
+        62 b"Port-Limit" Number,
+        63 b"Login-LAT-Port" Text,
+        80 b"Message-Authenticator" Octets,
+    ]
+}
 
 /// The attributes that never go on the wire, numbered from 1.
-const INTERNAL: [AttrRow; 15] = [
-    (1, "Auth-Type", Kind::Text),
-    (2, "Post-Auth-Type", Kind::Text),
-    (3, "Response-Packet-Type", Kind::Text),
-    (4, "Cleartext-Password", Kind::Text),
-    (5, "MD5-Password", Kind::Octets),
-    (6, "SHA-Password", Kind::Octets),
-    (7, "SSHA-Password", Kind::Octets),
-    (8, "Simultaneous-Use", Kind::Number),
-    (9, "Fall-Through", Kind::Text),
-    (10, "Realm", Kind::Text),
-    (11, "Stripped-User-Name", Kind::Text),
-    (12, "Tmp-String-0", Kind::Text),
-    (13, "Tmp-String-1", Kind::Text),
-    (14, "Tmp-Integer-0", Kind::Number),
-    (15, "Tmp-Integer-1", Kind::Number),
-];
+#[tactic(auto, unfolding(crate::specs::BaseAttributes::internal_attrs))]
+fn internal() -> AttrTable<15>
+    ensures names { result.names ≡ names_of internal_attrs }
+    ensures kinds { result.kinds ≡ kinds_of internal_attrs }
+    ensures inverse { AreInverse result.names }
+{
+    attributes![
+        1 b"Auth-Type" Text,
+        2 b"Post-Auth-Type" Text,
+        3 b"Response-Packet-Type" Text,
+        4 b"Cleartext-Password" Text,
+        5 b"MD5-Password" Octets,
+        6 b"SHA-Password" Octets,
+        7 b"SSHA-Password" Octets,
+        8 b"Simultaneous-Use" Number,
+        9 b"Fall-Through" Text,
+        10 b"Realm" Text,
+        11 b"Stripped-User-Name" Text,
+        12 b"Tmp-String-0" Text,
+        13 b"Tmp-String-1" Text,
+        14 b"Tmp-Integer-0" Number,
+        15 b"Tmp-Integer-1" Number,
+    ]
+}
+
+/// Whether this is a standard attribute of the base under its own name, whatever its kind.
+pub(crate) fn is_base(def: &AttrDef) -> bool
+    ensures { result ≡ is_base def.now }
+{
+    match standard().names.number(def.name.as_slice()) {
+        Some(number) => {
+            let space = Space::Standard;
+            AttrId { space, number } == def.id
+        }
+        None => false,
+    }
+}
 
 /// The same with the base's attributes.
 pub(crate) fn add_base_attrs(alloc: Global, dict: Dict) -> Result<Dict, NoMemory>
     ensures { IfOk result (λ new. new ≡ record { attrs = dict.attrs ++ base_attrs; values = dict.values }) }
 {
-    let dict = add_rows(alloc, dict, Space::Standard, &STANDARD)?;
-    add_rows(alloc, dict, Space::Internal, &INTERNAL)
+    let dict = add_table(alloc, dict, Space::Standard, standard())?;
+    add_table(alloc, dict, Space::Internal, internal())
 }
 
-fn add_rows(alloc: Global, dict: Dict, space: Space, rows: &[AttrRow]) -> Result<Dict, NoMemory>
-    ensures { IfOk result (λ new. new ≡ record { attrs = dict.attrs ++ map (attr_of_row space) rows.now; values = dict.values }) }
+/// The same with the attributes of a table.
+fn add_table<const N: usize>(
+    alloc: Global,
+    dict: Dict,
+    space: Space,
+    table: AttrTable<N>,
+) -> Result<Dict, NoMemory>
+    ensures { IfOk result (λ new. new ≡ record { attrs = dict.attrs ++ attrs_of space table.entry.names table.entry.kinds; values = dict.values }) }
+{
+    let AttrTable { names, kinds } = table;
+    add_rows(alloc, dict, space, names.rows(), &kinds)
+}
+
+fn add_rows(
+    alloc: Global,
+    dict: Dict,
+    space: Space,
+    names: &[NameRow],
+    kinds: &[Kind],
+) -> Result<Dict, NoMemory>
+    requires { length names.now ≡ length kinds.now }
+    ensures { IfOk result (λ new. new ≡ record { attrs = dict.attrs ++ attrs_of space (map row_of names.now) kinds.now; values = dict.values }) }
 {
     let mut grown = dict;
-    for (number, name, kind) in rows {
+    for (i, (name, number)) in names.iter().enumerate() {
         let def = AttrDef {
             id: AttrId {
                 space,
                 number: *number,
             },
-            kind: *kind,
-            name: Octets::of(alloc, name.as_bytes())?,
+            kind: kinds[i],
+            name: Octets::of(alloc, name)?,
         };
         grown = grown.with_attr(alloc, def)?;
     }

@@ -1,91 +1,207 @@
-//! The named values that every dictionary has.
+//! The named values that every dictionary has, in tables of their names and numbers: those that RFC 2865
+//! and RFC 2866 number, under this project's own spellings after FreeRADIUS.
 
 ghost use Rattle.std.specs.Prelude.{◌≡◌, ◌++◌, map, IfOk};
-ghost use Rattle.rad_dict.specs.BaseValues.{base_values};
-ghost use Rattle.rad_dict.specs.Rows.{value_of_row};
+ghost use Rattle.rad_tables.specs.Names.{row_of, AreInverse};
+ghost use Rattle.rad_dict.specs.BaseValues.{base_values, value_names};
+ghost use Rattle.rad_dict.specs.Rows.{values_of};
 
 use crate::{Dict, ValueDef};
 use rad_edge::{NoMemory, Octets};
-use rad_tables::{AttrId, Space};
+use rad_tables::{AttrId, NameRow, Names, Space, names};
 use std::alloc::Global;
 
-/// A standard attribute's number, a value's number and its name.
-type ValueRow = (u32, u32, &'static str);
+/// The values of Service-Type.
+#[tactic(auto, unfolding(crate::specs::BaseValues::base_values))]
+fn service_types() -> Names<11>
+    ensures rows { result ≡ value_names 6 base_values }
+    ensures inverse { AreInverse result }
+{
+    names![
+        1 b"Login-User",
+        2 b"Framed-User",
+        3 b"Callback-Login-User",
+        4 b"Callback-Framed-User",
+        5 b"Outbound-User",
+        6 b"Administrative-User",
+        7 b"NAS-Prompt-User",
+        8 b"Authenticate-Only",
+        9 b"Callback-NAS-Prompt",
+        10 b"Call-Check",
+        11 b"Callback-Administrative",
+    ]
+}
 
-/// The values that RFC 2865 and RFC 2866 number, under this project's own spellings after FreeRADIUS.
-const VALUES: [ValueRow; 51] = [
-    (6, 1, "Login-User"),
-    (6, 2, "Framed-User"),
-    (6, 3, "Callback-Login-User"),
-    (6, 4, "Callback-Framed-User"),
-    (6, 5, "Outbound-User"),
-    (6, 6, "Administrative-User"),
-    (6, 7, "NAS-Prompt-User"),
-    (6, 8, "Authenticate-Only"),
-    (6, 9, "Callback-NAS-Prompt"),
-    (6, 10, "Call-Check"),
-    (6, 11, "Callback-Administrative"),
-    (7, 1, "PPP"),
-    (7, 2, "SLIP"),
-    (10, 0, "None"),
-    (10, 1, "Broadcast"),
-    (10, 2, "Listen"),
-    (10, 3, "Broadcast-Listen"),
-    (13, 0, "None"),
-    (13, 1, "Van-Jacobson-TCP-IP"),
-    (15, 0, "Telnet"),
-    (15, 1, "Rlogin"),
-    (15, 2, "TCP-Clear"),
-    (15, 3, "PortMaster"),
-    (15, 4, "LAT"),
-    (29, 0, "Default"),
-    (29, 1, "RADIUS-Request"),
-    (40, 1, "Start"),
-    (40, 2, "Stop"),
-    (40, 3, "Interim-Update"),
-    (40, 7, "Accounting-On"),
-    (40, 8, "Accounting-Off"),
-    (45, 1, "RADIUS"),
-    (45, 2, "Local"),
-    (45, 3, "Remote"),
-    (49, 1, "User-Request"),
-    (49, 2, "Lost-Carrier"),
-    (49, 3, "Lost-Service"),
-    (49, 4, "Idle-Timeout"),
-    (49, 5, "Session-Timeout"),
-    (49, 6, "Admin-Reset"),
-    (49, 7, "Admin-Reboot"),
-    (49, 8, "Port-Error"),
-    (49, 9, "NAS-Error"),
-    (49, 10, "NAS-Request"),
-    (49, 11, "NAS-Reboot"),
-    (61, 0, "Async"),
-    (61, 1, "Sync"),
-    (61, 2, "ISDN"),
-    (61, 5, "Virtual"),
-    (61, 15, "Ethernet"),
-    (61, 19, "Wireless-802.11"),
-];
+/// The values of Framed-Protocol.
+#[tactic(auto, unfolding(crate::specs::BaseValues::base_values))]
+fn framed_protocols() -> Names<2>
+    ensures rows { result ≡ value_names 7 base_values }
+    ensures inverse { AreInverse result }
+{
+    names![
+        1 b"PPP",
+        2 b"SLIP",
+    ]
+}
+
+/// The values of Framed-Routing.
+#[tactic(auto, unfolding(crate::specs::BaseValues::base_values))]
+fn framed_routings() -> Names<4>
+    ensures rows { result ≡ value_names 10 base_values }
+    ensures inverse { AreInverse result }
+{
+    names![
+        0 b"None",
+        1 b"Broadcast",
+        2 b"Listen",
+        3 b"Broadcast-Listen",
+    ]
+}
+
+/// The values of Framed-Compression.
+#[tactic(auto, unfolding(crate::specs::BaseValues::base_values))]
+fn framed_compressions() -> Names<2>
+    ensures rows { result ≡ value_names 13 base_values }
+    ensures inverse { AreInverse result }
+{
+    names![
+        0 b"None",
+        1 b"Van-Jacobson-TCP-IP",
+    ]
+}
+
+/// The values of Login-Service.
+#[tactic(auto, unfolding(crate::specs::BaseValues::base_values))]
+fn login_services() -> Names<5>
+    ensures rows { result ≡ value_names 15 base_values }
+    ensures inverse { AreInverse result }
+{
+    names![
+        0 b"Telnet",
+        1 b"Rlogin",
+        2 b"TCP-Clear",
+        3 b"PortMaster",
+        4 b"LAT",
+    ]
+}
+
+/// The values of Termination-Action.
+#[tactic(auto, unfolding(crate::specs::BaseValues::base_values))]
+fn termination_actions() -> Names<2>
+    ensures rows { result ≡ value_names 29 base_values }
+    ensures inverse { AreInverse result }
+{
+    names![
+        0 b"Default",
+        1 b"RADIUS-Request",
+    ]
+}
+
+/// The values of Acct-Status-Type.
+#[tactic(auto, unfolding(crate::specs::BaseValues::base_values))]
+fn acct_status_types() -> Names<5>
+    ensures rows { result ≡ value_names 40 base_values }
+    ensures inverse { AreInverse result }
+{
+    names![
+        1 b"Start",
+        2 b"Stop",
+        3 b"Interim-Update",
+        7 b"Accounting-On",
+        8 b"Accounting-Off",
+    ]
+}
+
+/// The values of Acct-Authentic.
+#[tactic(auto, unfolding(crate::specs::BaseValues::base_values))]
+fn acct_authentics() -> Names<3>
+    ensures rows { result ≡ value_names 45 base_values }
+    ensures inverse { AreInverse result }
+{
+    names![
+        1 b"RADIUS",
+        2 b"Local",
+        3 b"Remote",
+    ]
+}
+
+/// The values of Acct-Terminate-Cause.
+#[tactic(auto, unfolding(crate::specs::BaseValues::base_values))]
+fn acct_terminate_causes() -> Names<11>
+    ensures rows { result ≡ value_names 49 base_values }
+    ensures inverse { AreInverse result }
+{
+    names![
+        1 b"User-Request",
+        2 b"Lost-Carrier",
+        3 b"Lost-Service",
+        4 b"Idle-Timeout",
+        5 b"Session-Timeout",
+        6 b"Admin-Reset",
+        7 b"Admin-Reboot",
+        8 b"Port-Error",
+        9 b"NAS-Error",
+        10 b"NAS-Request",
+        11 b"NAS-Reboot",
+    ]
+}
+
+/// The values of NAS-Port-Type.
+#[tactic(auto, unfolding(crate::specs::BaseValues::base_values))]
+fn nas_port_types() -> Names<6>
+    ensures rows { result ≡ value_names 61 base_values }
+    ensures inverse { AreInverse result }
+{
+    names![
+        0 b"Async",
+        1 b"Sync",
+        2 b"ISDN",
+        5 b"Virtual",
+        15 b"Ethernet",
+        19 b"Wireless-802.11",
+    ]
+}
 
 /// The same with the base's named values.
 pub(crate) fn add_base_values(alloc: Global, dict: Dict) -> Result<Dict, NoMemory>
     ensures { IfOk result (λ new. new ≡ record { attrs = dict.attrs; values = dict.values ++ base_values }) }
 {
-    add_rows(alloc, dict, &VALUES)
+    let dict = add_table(alloc, dict, 6, service_types())?;
+    let dict = add_table(alloc, dict, 7, framed_protocols())?;
+    let dict = add_table(alloc, dict, 10, framed_routings())?;
+    let dict = add_table(alloc, dict, 13, framed_compressions())?;
+    let dict = add_table(alloc, dict, 15, login_services())?;
+    let dict = add_table(alloc, dict, 29, termination_actions())?;
+    let dict = add_table(alloc, dict, 40, acct_status_types())?;
+    let dict = add_table(alloc, dict, 45, acct_authentics())?;
+    let dict = add_table(alloc, dict, 49, acct_terminate_causes())?;
+    add_table(alloc, dict, 61, nas_port_types())
 }
 
-fn add_rows(alloc: Global, dict: Dict, rows: &[ValueRow]) -> Result<Dict, NoMemory>
-    ensures { IfOk result (λ new. new ≡ record { attrs = dict.attrs; values = dict.values ++ map value_of_row rows.now }) }
+/// The same with the values of a standard attribute's table.
+fn add_table<const N: usize>(
+    alloc: Global,
+    dict: Dict,
+    attr: u32,
+    table: Names<N>,
+) -> Result<Dict, NoMemory>
+    ensures { IfOk result (λ new. new ≡ record { attrs = dict.attrs; values = dict.values ++ values_of attr table.entry }) }
+{
+    add_rows(alloc, dict, attr, table.rows())
+}
+
+fn add_rows(alloc: Global, dict: Dict, attr: u32, rows: &[NameRow]) -> Result<Dict, NoMemory>
+    ensures { IfOk result (λ new. new ≡ record { attrs = dict.attrs; values = dict.values ++ values_of attr (map row_of rows.now) }) }
 {
     let mut grown = dict;
-    for (attr, number, name) in rows {
+    for (name, number) in rows {
         let def = ValueDef {
             attr: AttrId {
                 space: Space::Standard,
-                number: *attr,
+                number: attr,
             },
             number: *number,
-            name: Octets::of(alloc, name.as_bytes())?,
+            name: Octets::of(alloc, name)?,
         };
         grown = grown.with_value(alloc, def)?;
     }

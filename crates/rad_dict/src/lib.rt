@@ -8,12 +8,23 @@ mod base_attributes;
 mod base_values;
 mod definitions;
 mod dictionary;
+mod fault;
+mod including;
 mod index;
 mod keys;
+mod line;
+mod line_numbers;
+mod line_words;
+mod name_forms;
+mod reading;
 mod search;
+mod step;
+mod text_lines;
+mod vendors;
 
 pub use definitions::{AttrDef, ValueDef};
 pub use dictionary::Dict;
+pub use fault::DictFault;
 
 #[cfg(test)]
 mod tests;

@@ -1,3 +1,8 @@
+mod definitions;
+mod faults;
+mod including;
+mod site;
+
 use crate::{AttrDef, Dict};
 use rad_tables::{AttrId, Kind, Space};
 use std::alloc::Global;

@@ -1,9 +1,10 @@
-use Rattle.std.proofs.Common.{◌≡◌, ◌++◌, map, take}
-use Rattle.rad_dict.specs.Rows.{attr_of_row}
+use Rattle.std.proofs.Common.{◌≡◌, ◌++◌, map, drop}
+use Rattle.rad_tables.specs.Names.{row_of}
+use Rattle.rad_dict.specs.Rows.{attrs_of}
 use Rattle.rad_dict.proofs.base_attributes.add_rows.Given as goal
 
-abbrev pub invariant-loop-number : goal.invariant-loop-number
-invariant-loop-number l = record {
-  attrs : l.grown.attrs ≡ l.initial.grown.attrs ++ map (attr_of_row l.space) (take l.number-index l.rows);
+abbrev pub invariant-loop-i : goal.invariant-loop-i
+invariant-loop-i l = record {
+  attrs : l.grown.attrs ++ attrs_of l.space (map row_of (drop l.i l.names)) (drop l.i l.kinds) ≡ l.initial.grown.attrs ++ attrs_of l.space (map row_of l.names) l.kinds;
   values : l.grown.values ≡ l.initial.grown.values;
 }

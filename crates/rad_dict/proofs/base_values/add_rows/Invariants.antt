@@ -1,9 +1,10 @@
-use Rattle.std.proofs.Common.{◌≡◌, ◌++◌, map, take}
-use Rattle.rad_dict.specs.Rows.{value_of_row}
+use Rattle.std.proofs.Common.{◌≡◌, ◌++◌, map, drop}
+use Rattle.rad_tables.specs.Names.{row_of}
+use Rattle.rad_dict.specs.Rows.{values_of}
 use Rattle.rad_dict.proofs.base_values.add_rows.Given as goal
 
-abbrev pub invariant-loop-attr : goal.invariant-loop-attr
-invariant-loop-attr l = record {
+abbrev pub invariant-loop-name : goal.invariant-loop-name
+invariant-loop-name l = record {
   attrs : l.grown.attrs ≡ l.initial.grown.attrs;
-  values : l.grown.values ≡ l.initial.grown.values ++ map value_of_row (take l.attr-index l.rows);
+  values : l.grown.values ++ values_of l.attr (map row_of (drop l.name-index l.rows)) ≡ l.initial.grown.values ++ values_of l.attr (map row_of l.rows);
 }
