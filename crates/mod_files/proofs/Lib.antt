@@ -1,0 +1,9 @@
+pub mod FirstLine
+pub mod Walks
+pub mod Trials
+pub mod PlacesLemmas
+pub mod EntriesLemmas
+pub mod NoLineEnds
+pub mod WrittenItems
+pub mod WrittenLines
+pub mod WrittenBack
