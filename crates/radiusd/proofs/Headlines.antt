@@ -11,10 +11,10 @@ use Rattle.rad_core.specs.Step.{after, IsLegal}
 use Rattle.rad_core.specs.Worker.{Placed, placed, of_worker, served, IsClosed, IsOwn}
 use Rattle.rad_core.proofs.Histories.{run-append, IsLegal-append, of_worker-own}
 use Rattle.rad_core.proofs.Completeness.{may_all, may_own, each_one_reply}
-use Rattle.radiusd.specs.declared.fault.BuildFault.{BuildFault}
+use Rattle.rad_site.specs.declared.fault.BuildFault.{BuildFault}
 use Rattle.radiusd.specs.declared.left.Left.{Left}
-use Rattle.radiusd.specs.Site.{Site}
-use Rattle.radiusd.specs.Meaning.{site_meaning}
+use Rattle.rad_site.specs.Site.{Site}
+use Rattle.rad_site.specs.Meaning.{site_meaning}
 use Rattle.radiusd.specs.History.{state_after, listener_of, Installs, TriesInstall}
 use Rattle.radiusd.specs.Told.{KitTells, Told, GrowsBy, IsAt}
 use Rattle.radiusd.specs.Leaving.{Leaves, IsAtEnd}

@@ -7,9 +7,9 @@ use Rattle.rad_core.specs.declared.installed.Installed.TheVariants as installed
 use Rattle.rad_core.specs.State.{ServerState}
 use Rattle.rad_core.specs.Entry.{Entry, Install}
 use Rattle.rad_core.specs.Step.{after_install, Step, IsLegal}
-use Rattle.radiusd.specs.declared.fault.BuildFault.{BuildFault}
-use Rattle.radiusd.specs.Site.{Site}
-use Rattle.radiusd.specs.Meaning.{site_meaning}
+use Rattle.rad_site.specs.declared.fault.BuildFault.{BuildFault}
+use Rattle.rad_site.specs.Site.{Site}
+use Rattle.rad_site.specs.Meaning.{site_meaning}
 use Rattle.radiusd.specs.History.{IsKept, Installs}
 use Rattle.radiusd.specs.Installing.{is_present_by}
 use Rattle.radiusd.proofs.Kept.{kept_after}

@@ -6,9 +6,9 @@ use Rattle.rad_core.specs.Entry.{Entry}
 use Rattle.rad_core.specs.Step.{run, May, Step, IsLegal}
 use Rattle.rad_core.specs.Worker.{Answer}
 use Rattle.rad_core.proofs.Histories.{run-append, IsLegal-append}
-use Rattle.radiusd.specs.declared.fault.BuildFault.{BuildFault}
-use Rattle.radiusd.specs.Site.{Site}
-use Rattle.radiusd.specs.Meaning.{site_meaning}
+use Rattle.rad_site.specs.declared.fault.BuildFault.{BuildFault}
+use Rattle.rad_site.specs.Site.{Site}
+use Rattle.rad_site.specs.Meaning.{site_meaning}
 use Rattle.radiusd.specs.History.{IsKept, state_after, Adds}
 use Rattle.radiusd.specs.Turn.{AddsTurn}
 

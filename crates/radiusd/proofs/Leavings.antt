@@ -4,10 +4,10 @@ use Rattle.rad_edge.specs.declared.wire.Heard.TheVariants as heard
 use Rattle.rad_edge.specs.Telling.{Tells}
 use Rattle.rad_core.specs.Entry.{Look, Stop}
 use Rattle.rad_core.specs.Worker.{Placed, At, OnlyServes, is_service}
-use Rattle.radiusd.specs.declared.fault.BuildFault.{BuildFault}
+use Rattle.rad_site.specs.declared.fault.BuildFault.{BuildFault}
 use Rattle.radiusd.specs.declared.left.Left.{Left}
 use Rattle.radiusd.specs.declared.left.Left.TheVariants as left
-use Rattle.radiusd.specs.Site.{Site}
+use Rattle.rad_site.specs.Site.{Site}
 use Rattle.radiusd.specs.Told.{KitTells}
 use Rattle.radiusd.specs.Leaving.{Leaves, HearsLast, StaysOpen}
 use Rattle.radiusd.proofs.Telling.{Tells-trans, Tells-same, HearsLast-join, StaysOpen-join, All-append}

@@ -1,5 +1,3 @@
-pub mod BlockItems
-pub mod Requests
 pub mod Turns
 pub mod Kept
 pub mod Telling

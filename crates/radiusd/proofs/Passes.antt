@@ -16,11 +16,11 @@ use Rattle.rad_core.specs.Entry.{Entry, Look, Stop}
 use Rattle.rad_core.specs.Step.{after, run, IsLegal}
 use Rattle.rad_core.specs.Worker.{Placed, At, placed, Answer, IsOwn}
 use Rattle.rad_core.proofs.Histories.{run-append, placed-append, IsLegal-append}
-use Rattle.radiusd.specs.declared.fault.BuildFault.{BuildFault}
+use Rattle.rad_site.specs.declared.fault.BuildFault.{BuildFault}
 use Rattle.radiusd.specs.declared.left.Left.{Left}
 use Rattle.radiusd.specs.declared.left.Left.TheVariants as leaving
-use Rattle.radiusd.specs.Site.{Site}
-use Rattle.radiusd.specs.Meaning.{site_meaning}
+use Rattle.rad_site.specs.Site.{Site}
+use Rattle.rad_site.specs.Meaning.{site_meaning}
 use Rattle.radiusd.specs.History.{state_after, Adds}
 use Rattle.radiusd.specs.Told.{Told, KitTells, IsAt, Hears, Sends, GrowsBy, events, datagram_of}
 use Rattle.radiusd.specs.Leaving.{Leaves, StaysOpen, IsOpen}

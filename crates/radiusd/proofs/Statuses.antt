@@ -4,13 +4,13 @@ use Rattle.rad_edge.specs.declared.crew.Kit.{Kit}
 use Rattle.rad_edge.specs.Telling.{Tells, Rose}
 use Rattle.rad_edge.specs.Files.{File, FilesTold, begun}
 use Rattle.rad_core.specs.Policy.{IsBuilt}
-use Rattle.radiusd.specs.declared.fault.BuildFault.{BuildFault}
-use Rattle.radiusd.specs.declared.fault.BuildFault.TheVariants as fault
+use Rattle.rad_site.specs.declared.fault.BuildFault.{BuildFault}
+use Rattle.rad_site.specs.declared.fault.BuildFault.TheVariants as fault
 use Rattle.radiusd.specs.declared.status.Status.{Status}
 use Rattle.radiusd.specs.declared.status.Status.TheVariants as status
-use Rattle.radiusd.specs.Site.{Site}
-use Rattle.radiusd.specs.Built.{built}
-use Rattle.radiusd.specs.Meaning.{site_meaning}
+use Rattle.rad_site.specs.Site.{Site}
+use Rattle.rad_site.specs.Built.{built}
+use Rattle.rad_site.specs.Meaning.{site_meaning}
 use Rattle.radiusd.specs.Words.{folder_in}
 use Rattle.radiusd.specs.Printing.{Prints}
 use Rattle.radiusd.specs.Course.{IsCourse, Unbuilt, Serving, fault_line, HasDeafWire}
@@ -21,6 +21,8 @@ use Rattle.radiusd.proofs.Printings.{Prints-weaker}
 -- the status of a fault of the configuration is that of a site's own fault alone
 IsSiteFault-by_status : (wrong : BuildFault) → status_of wrong ≡ status.Configuration → IsSiteFault wrong
 IsSiteFault-by_status (fault.Conf wrong) is = tt
+IsSiteFault-by_status (fault.Dict wrong) is = tt
+IsSiteFault-by_status (fault.Users file wrong) is = tt
 IsSiteFault-by_status (fault.Tree wrong) is = tt
 IsSiteFault-by_status fault.ReadFault is = cc
 IsSiteFault-by_status fault.NoMemory is = cc
@@ -111,6 +113,24 @@ SiteGives-by_fault words folder wrong files_before files_now Fine ended words_ar
       ]
       | inr (inr failed) ↦ absurd (not_read failed fine)
     ]) told
+
+-- the end of a run that refused a fault
+ends_refused : (wrong : BuildFault) (ended : Status) → (ended ≡ status_of wrong) ⊎ (ended ≡ status.NoMemory) → (ended ≡ status.Configuration) ⊎ ((ended ≡ status.ReadFault) ⊎ (ended ≡ status.NoMemory))
+ends_refused wrong ended (inr out) = inr (inr out)
+ends_refused (fault.Conf wrong) ended (inl is) = inl is
+ends_refused (fault.Dict wrong) ended (inl is) = inl is
+ends_refused (fault.Users file wrong) ended (inl is) = inl is
+ends_refused (fault.Tree wrong) ended (inl is) = inl is
+ends_refused fault.ReadFault ended (inl is) = inr (inl is)
+ends_refused fault.NoMemory ended (inl is) = inr (inr is)
+
+pub FaultGives-by_fault : (words : List (List ℕ)) (wrong : BuildFault) (files_before files_now : Option FilesTold) (R : FilesTold → FilesTold → Type 0) (ended : Status) → Tells files_before files_now R
+    → (ended ≡ status_of wrong) ⊎ (ended ≡ status.NoMemory)
+    → FaultGives words ((ended ≡ status.Configuration) ⊎ ((ended ≡ status.ReadFault) ⊎ (ended ≡ status.NoMemory))) files_before files_now
+FaultGives-by_fault words wrong files_before files_now R ended told which =
+    Tells-weaker (λ (before now : FilesTold). (folder : List ℕ) (other : BuildFault) → folder_in words ≡ Some folder → built (record { files = (begun before).present; folder = folder }) ≡ Err other
+    → (ended ≡ status.Configuration) ⊎ ((ended ≡ status.ReadFault) ⊎ (ended ≡ status.NoMemory))) files_before files_now
+    (λ (before now : FilesTold) t folder other words_are means. ends_refused wrong ended which) told
 
 -- a run that served, where nothing failed
 module _ {W S K U G : Type 0} (failures : W → ℕ) (files_before files_now crew_before crew_now sink_before sink_now : ℕ) (kits : List (Kit W S K U G)) where

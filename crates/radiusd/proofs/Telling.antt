@@ -9,8 +9,8 @@ use Rattle.rad_edge.specs.Telling.{Tells}
 use Rattle.rad_edge.specs.Wire.{WireTold}
 use Rattle.rad_core.specs.Worker.{Answer, Placed, asked}
 use Rattle.rad_core.proofs.Histories.{asked-append}
-use Rattle.radiusd.specs.declared.fault.BuildFault.{BuildFault}
-use Rattle.radiusd.specs.Site.{Site}
+use Rattle.rad_site.specs.declared.fault.BuildFault.{BuildFault}
+use Rattle.rad_site.specs.Site.{Site}
 use Rattle.radiusd.specs.Told.{datagram_of, events, taken, answer_of, Hears, Sends, GrowsBy, Datagram}
 use Rattle.radiusd.specs.Leaving.{HearsLast, StaysOpen, IsOpen}
 

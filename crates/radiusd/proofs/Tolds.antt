@@ -8,9 +8,9 @@ use Rattle.rad_edge.specs.Telling.{Tells}
 use Rattle.rad_core.specs.declared.arrival.Arrived.{Arrived}
 use Rattle.rad_core.specs.Worker.{Placed, Answer, served, answered}
 use Rattle.rad_core.proofs.Histories.{served-append, answered-append, IsClosed-append, HaveOutcomes-append}
-use Rattle.radiusd.specs.declared.fault.BuildFault.{BuildFault}
-use Rattle.radiusd.specs.Site.{Site}
-use Rattle.radiusd.specs.Meaning.{site_meaning}
+use Rattle.rad_site.specs.declared.fault.BuildFault.{BuildFault}
+use Rattle.rad_site.specs.Site.{Site}
+use Rattle.rad_site.specs.Meaning.{site_meaning}
 use Rattle.radiusd.specs.Told.{Told, KitTells, IsAt, Hears, Sends, GrowsBy}
 use Rattle.radiusd.proofs.Telling.{Tells-trans, Tells-same, Hears-join, Sends-join, GrowsBy-join, All-append}
 

@@ -15,12 +15,12 @@ use Rattle.rad_core.specs.Step.{Step}
 use Rattle.rad_core.specs.Answers.{ending_seen, GivesOutcome, IsHeld}
 use Rattle.rad_core.specs.Worker.{Answer, reply_of, IsOutcome, Passes}
 use Rattle.rad_core.proofs.Turns.{passes_dropped, passes_no_room, passes_fresh, held_after_start, fresh_present, moment_after}
-use Rattle.radiusd.specs.declared.fault.BuildFault.{BuildFault}
+use Rattle.rad_site.specs.declared.fault.BuildFault.{BuildFault}
 use Rattle.radiusd.specs.declared.entry.StoredEntry.{StoredEntry}
 use Rattle.radiusd.specs.declared.entry.StoredEntry.TheVariants as stored
 use Rattle.radiusd.specs.declared.turn.Reply.{Reply}
-use Rattle.radiusd.specs.Site.{Site}
-use Rattle.radiusd.specs.Meaning.{site_meaning}
+use Rattle.rad_site.specs.Site.{Site}
+use Rattle.rad_site.specs.Meaning.{site_meaning}
 use Rattle.radiusd.specs.History.{entry_seen, history_of}
 use Rattle.radiusd.specs.Turn.{AddsTurn, answers_of, IsCopied}
 

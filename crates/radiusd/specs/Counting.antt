@@ -6,12 +6,12 @@ use Rattle.rad_core.specs.declared.ending.Ending.TheVariants.{Sent, Withheld, Ou
 use Rattle.rad_core.specs.declared.installed.Installed.{Installed}
 use Rattle.rad_core.specs.declared.installed.Installed.TheVariants as installed
 use Rattle.rad_core.specs.Entry.{Entry, Start, Finish, Install, Look, Stop}
-use Rattle.radiusd.specs.declared.fault.BuildFault.{BuildFault}
+use Rattle.rad_site.specs.declared.fault.BuildFault.{BuildFault}
 use Rattle.radiusd.specs.declared.counts.Counts.{Counts}
 use Rattle.radiusd.specs.declared.counts.Counted.{Counted}
 use Rattle.radiusd.specs.declared.counts.Counted.TheVariants as counted
 use Rattle.radiusd.specs.Installing.{is_present_by}
-use Rattle.radiusd.specs.Site.{Site}
+use Rattle.rad_site.specs.Site.{Site}
 
 -- A start is a request.
 abbrev pub is_request : Entry Site BuildFault → Bool

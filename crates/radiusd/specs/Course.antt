@@ -9,15 +9,15 @@ use Rattle.rad_edge.specs.Telling.{Tells, Rose}
 use Rattle.rad_core.specs.declared.installed.Installed.{Installed}
 use Rattle.rad_core.specs.Entry.{Entry, Install}
 use Rattle.rad_core.specs.Policy.{IsBuilt}
-use Rattle.radiusd.specs.declared.fault.BuildFault.{BuildFault}
-use Rattle.radiusd.specs.declared.fault.BuildFault.TheVariants as fault
-use Rattle.radiusd.specs.Built.{built}
+use Rattle.rad_site.specs.declared.fault.BuildFault.{BuildFault}
+use Rattle.rad_site.specs.declared.fault.BuildFault.TheVariants as fault
+use Rattle.rad_site.specs.Built.{built}
 use Rattle.radiusd.specs.Counting.{counts_of}
-use Rattle.radiusd.specs.FaultText.{fault_text}
+use Rattle.rad_site.specs.FaultText.{fault_text}
 use Rattle.radiusd.specs.History.{listener_of}
 use Rattle.radiusd.specs.Lines.{listening_line, counts_line, socket_fault_line, usage_line}
-use Rattle.radiusd.specs.Meaning.{site_meaning}
-use Rattle.radiusd.specs.Site.{Site}
+use Rattle.rad_site.specs.Meaning.{site_meaning}
+use Rattle.rad_site.specs.Site.{Site}
 use Rattle.radiusd.specs.Words.{folder_in}
 
 -- The words were others; the folder has no generation, for this fault; the generation of this site was to be served.
@@ -40,6 +40,8 @@ IsCourse words files_before files_now (Serving site) = (folder : List ℕ) × (f
 -- The line of a fault: its text, with place and reason, and a newline. Want of memory has none.
 abbrev pub fault_line : BuildFault → List ℕ
 fault_line (fault.Conf wrong) = fault_text (fault.Conf wrong) ++ 10 ∷ []
+fault_line (fault.Dict wrong) = fault_text (fault.Dict wrong) ++ 10 ∷ []
+fault_line (fault.Users file wrong) = fault_text (fault.Users file wrong) ++ 10 ∷ []
 fault_line (fault.Tree wrong) = fault_text (fault.Tree wrong) ++ 10 ∷ []
 fault_line fault.ReadFault = fault_text fault.ReadFault ++ 10 ∷ []
 fault_line fault.NoMemory = []

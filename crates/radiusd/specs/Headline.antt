@@ -11,14 +11,14 @@ use Rattle.rad_core.specs.Entry.{Entry, worker_of}
 use Rattle.rad_core.specs.Step.{IsLegal}
 use Rattle.rad_core.specs.Worker.{Placed, placed, of_worker, served, answered, IsClosed, HaveOutcomes}
 use Rattle.rad_core.specs.Completeness.{EachHasOneReply}
-use Rattle.radiusd.specs.declared.fault.BuildFault.{BuildFault}
+use Rattle.rad_site.specs.declared.fault.BuildFault.{BuildFault}
 use Rattle.radiusd.specs.declared.left.Left.{Left}
 use Rattle.radiusd.specs.Course.{Course, IsCourse, Takes, IsExcused, lines_of}
 use Rattle.radiusd.specs.History.{state_after}
 use Rattle.radiusd.specs.Leaving.{Leaves, IsAtEnd}
-use Rattle.radiusd.specs.Meaning.{site_meaning}
+use Rattle.rad_site.specs.Meaning.{site_meaning}
 use Rattle.radiusd.specs.Printing.{Prints}
-use Rattle.radiusd.specs.Site.{Site}
+use Rattle.rad_site.specs.Site.{Site}
 use Rattle.radiusd.specs.Told.{KitTells, Hears, Sends, GrowsBy, IsAt}
 
 -- Each kit, with its worker's number and as it was handed out, is so. There are as many kits as were handed out.

@@ -7,11 +7,11 @@ use Rattle.rad_core.specs.declared.installed.Installed.{Installed}
 use Rattle.rad_core.specs.State.{ServerState, opening}
 use Rattle.rad_core.specs.Entry.{Entry, Start, Finish, Install, Look, Stop}
 use Rattle.rad_core.specs.Step.{run, May, IsLegal}
-use Rattle.radiusd.specs.declared.fault.BuildFault.{BuildFault}
+use Rattle.rad_site.specs.declared.fault.BuildFault.{BuildFault}
 use Rattle.radiusd.specs.declared.entry.StoredEntry.{StoredEntry}
 use Rattle.radiusd.specs.declared.entry.StoredEntry.TheVariants as stored
-use Rattle.radiusd.specs.Site.{Site}
-use Rattle.radiusd.specs.Meaning.{site_meaning}
+use Rattle.rad_site.specs.Site.{Site}
+use Rattle.rad_site.specs.Meaning.{site_meaning}
 
 -- A stored entry, without where its generation lies.
 abbrev pub entry_seen : StoredEntry → Entry Site BuildFault

@@ -1,8 +1,8 @@
 -- A hub as callers see it. This project's own.
 use Rattle.std.specs.Prelude.{ℕ, List}
 use Rattle.rad_core.specs.Entry.{Entry}
-use Rattle.radiusd.specs.declared.fault.BuildFault.{BuildFault}
-use Rattle.radiusd.specs.Site.{Site}
+use Rattle.rad_site.specs.declared.fault.BuildFault.{BuildFault}
+use Rattle.rad_site.specs.Site.{Site}
 
 -- Its history, its session log, and how many more entries it has room for.
 pub record HubSeen (L : Type 0) : Type 0 where

@@ -9,10 +9,10 @@ use Rattle.rad_core.specs.declared.seen.Seen.{Seen}
 use Rattle.rad_core.specs.State.{ServerState}
 use Rattle.rad_core.specs.Entry.{Look, Stop}
 use Rattle.rad_core.specs.Worker.{Placed, At, OnlyServes}
-use Rattle.radiusd.specs.declared.fault.BuildFault.{BuildFault}
+use Rattle.rad_site.specs.declared.fault.BuildFault.{BuildFault}
 use Rattle.radiusd.specs.declared.left.Left.{Left}
 use Rattle.radiusd.specs.declared.left.Left.TheVariants as left
-use Rattle.radiusd.specs.Site.{Site}
+use Rattle.rad_site.specs.Site.{Site}
 use Rattle.radiusd.specs.Told.{KitTells}
 
 -- The answer isn't that the wire ended.

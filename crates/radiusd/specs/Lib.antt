@@ -1,16 +1,3 @@
-pub mod Section
-pub mod Site
-pub mod Request
-pub mod Nodes
-pub mod Items
-pub mod Address
-pub mod ClientBlock
-pub mod Statements
-pub mod ServerBlock
-pub mod ConfFault
-pub mod FaultText
-pub mod Built
-pub mod Meaning
 pub mod History
 pub mod HubSeen
 pub mod Turn

@@ -10,13 +10,13 @@ use Rattle.rad_core.specs.declared.arrival.Arrived.{Arrived}
 use Rattle.rad_core.specs.Entry.{Entry}
 use Rattle.rad_core.specs.Step.{IsLegal}
 use Rattle.rad_core.specs.Worker.{Answer, placed, IsOwn}
-use Rattle.radiusd.specs.declared.fault.BuildFault.{BuildFault}
+use Rattle.rad_site.specs.declared.fault.BuildFault.{BuildFault}
 use Rattle.radiusd.specs.declared.left.Left.{Left}
 use Rattle.radiusd.specs.declared.left.Left.TheVariants as leaving
 use Rattle.radiusd.specs.declared.serving.Passed.{Passed}
 use Rattle.radiusd.specs.declared.serving.Passed.TheVariants as passed
-use Rattle.radiusd.specs.Site.{Site}
-use Rattle.radiusd.specs.Meaning.{site_meaning}
+use Rattle.rad_site.specs.Site.{Site}
+use Rattle.rad_site.specs.Meaning.{site_meaning}
 use Rattle.radiusd.specs.History.{state_after}
 use Rattle.radiusd.specs.Turn.{AddsTurn}
 use Rattle.radiusd.specs.Told.{KitTells, Told, Sends, GrowsBy}

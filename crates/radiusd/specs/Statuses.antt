@@ -3,14 +3,14 @@ use Rattle.std.specs.Prelude.{ℕ, ◌≡◌, ◌⊎◌, List, Option, Some, Ok,
 use Rattle.rad_edge.specs.declared.crew.Kit.{Kit}
 use Rattle.rad_edge.specs.Telling.{Tells, Rose}
 use Rattle.rad_edge.specs.Files.{FilesTold, begun}
-use Rattle.radiusd.specs.declared.fault.BuildFault.{BuildFault}
-use Rattle.radiusd.specs.declared.fault.BuildFault.TheVariants as fault
+use Rattle.rad_site.specs.declared.fault.BuildFault.{BuildFault}
+use Rattle.rad_site.specs.declared.fault.BuildFault.TheVariants as fault
 use Rattle.radiusd.specs.declared.status.Status.{Status}
 use Rattle.radiusd.specs.declared.status.Status.TheVariants as status
-use Rattle.radiusd.specs.Built.{built}
+use Rattle.rad_site.specs.Built.{built}
 use Rattle.radiusd.specs.Course.{fault_line, HasDeafWire}
 use Rattle.radiusd.specs.Printing.{Prints}
-use Rattle.radiusd.specs.Site.{Site}
+use Rattle.rad_site.specs.Site.{Site}
 use Rattle.radiusd.specs.Words.{folder_in}
 
 -- The exit status of the program.
@@ -36,6 +36,8 @@ IsServing status.NoMemory = Unit {0}
 -- The status of a fault: one of the configuration, a read fault or want of memory.
 abbrev pub status_of : BuildFault → Status
 status_of (fault.Conf wrong) = status.Configuration
+status_of (fault.Dict wrong) = status.Configuration
+status_of (fault.Users file wrong) = status.Configuration
 status_of (fault.Tree wrong) = status.Configuration
 status_of fault.ReadFault = status.ReadFault
 status_of fault.NoMemory = status.NoMemory
@@ -43,6 +45,8 @@ status_of fault.NoMemory = status.NoMemory
 -- A fault of the site's own text, neither a read fault nor want of memory.
 abbrev pub IsSiteFault : BuildFault → Type 0
 IsSiteFault (fault.Conf wrong) = Unit {0}
+IsSiteFault (fault.Dict wrong) = Unit {0}
+IsSiteFault (fault.Users file wrong) = Unit {0}
 IsSiteFault (fault.Tree wrong) = Unit {0}
 IsSiteFault fault.ReadFault = ⊥
 IsSiteFault fault.NoMemory = ⊥

@@ -13,9 +13,9 @@ use Rattle.rad_edge.specs.Telling.{Tells}
 use Rattle.rad_edge.specs.Wire.{WireTold}
 use Rattle.rad_core.specs.declared.arrival.Arrived.{Arrived}
 use Rattle.rad_core.specs.Worker.{Placed, Answer, served, asked, answered, IsClosed, HaveOutcomes}
-use Rattle.radiusd.specs.declared.fault.BuildFault.{BuildFault}
-use Rattle.radiusd.specs.Site.{Site}
-use Rattle.radiusd.specs.Meaning.{site_meaning}
+use Rattle.rad_site.specs.declared.fault.BuildFault.{BuildFault}
+use Rattle.rad_site.specs.Site.{Site}
+use Rattle.rad_site.specs.Meaning.{site_meaning}
 
 -- A datagram: its source and its octets.
 pub record Datagram : Type 0 where

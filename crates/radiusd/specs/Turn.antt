@@ -7,10 +7,10 @@ use Rattle.rad_core.specs.declared.outcome.Outcome.TheVariants as outcome
 use Rattle.rad_core.specs.State.{ServerState}
 use Rattle.rad_core.specs.Entry.{Entry}
 use Rattle.rad_core.specs.Worker.{Answer, Passes}
-use Rattle.radiusd.specs.declared.fault.BuildFault.{BuildFault}
+use Rattle.rad_site.specs.declared.fault.BuildFault.{BuildFault}
 use Rattle.radiusd.specs.declared.turn.Reply.{Reply}
-use Rattle.radiusd.specs.Site.{Site}
-use Rattle.radiusd.specs.Meaning.{site_meaning}
+use Rattle.rad_site.specs.Site.{Site}
+use Rattle.rad_site.specs.Meaning.{site_meaning}
 
 -- The reply stands at the front of the buffer, where there is one.
 abbrev pub IsCopied : Outcome → Option Reply → List ℕ → Type 0

@@ -5,8 +5,8 @@ ghost use Rattle.radiusd.specs.History.{entry_seen, history_of};
 ghost use Rattle.radiusd.specs.Installing.{is_present_by};
 
 use crate::entry::StoredEntry;
-use crate::fault::BuildFault;
 use rad_core::{Ending, Installed};
+use rad_site::BuildFault;
 
 /// What a run counts: the datagrams that it served, the replies that they got, the generations that it loaded beside
 /// the one at the start, and the loads that were refused.

@@ -1,7 +1,6 @@
-use crate::fault::BuildFault;
-use crate::generation::Generation;
 use rad_core::{Arrived, Ending, Installed, Seen, StartAnswer};
 use rad_edge::Listen;
+use rad_site::{BuildFault, Generation};
 use std::sync::Arc;
 
 /// An entry of the history as the hub stores it.

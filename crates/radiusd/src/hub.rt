@@ -1,10 +1,10 @@
 use crate::counts::{Counts, counts_of, is_present};
 use crate::entry::StoredEntry;
-use crate::generation::Generation;
 use crate::room::Room;
 use crate::turn::{Reply, take_turn};
 use rad_core::{Arrival, Core, Seen};
 use rad_edge::{Gate, Listen, NoMemory, Octets, Shelf};
+use rad_site::Generation;
 use std::alloc::Global;
 use std::marker::Model;
 use std::sync::Arc;
@@ -46,7 +46,7 @@ impl<L: Shelf> Hub<L> {
     ghost use Rattle.rad_core.specs.Entry.{Look, Stop};
     ghost use Rattle.rad_core.specs.Step.{IsLegal};
     ghost use Rattle.rad_core.specs.Answers.{arrived_of};
-    ghost use Rattle.radiusd.specs.Meaning.{site_meaning};
+    ghost use Rattle.rad_site.specs.Meaning.{site_meaning};
     ghost use Rattle.std.specs.Arc.{arc_value};
     ghost use Rattle.radiusd.specs.Counting.{counts_of};
     ghost use Rattle.radiusd.specs.History.{state_after, Installs, Adds};

@@ -1,9 +1,9 @@
 ghost use Rattle.std.specs.Prelude.{◌≡◌, IfOk, OnErr};
 ghost use Rattle.radiusd.specs.History.{listener_of, TriesInstall, IsInstalled};
 
-use crate::generation::Generation;
 use crate::hub::Hub;
 use rad_edge::{Listen, ListenKind, NoMemory, Octets, Shelf};
+use rad_site::Generation;
 use std::alloc::Global;
 use std::sync::Arc;
 
@@ -12,9 +12,9 @@ fn listener_of(alloc: Global, generation: &Generation) -> Result<Listen, NoMemor
     ensures { IfOk result (λ listen. listen ≡ listener_of generation.now) }
 {
     Ok(Listen {
-        server: Octets::of(alloc, generation.server.as_slice())?,
+        server: Octets::of(alloc, generation.server())?,
         kind: ListenKind::Auth,
-        at: generation.at,
+        at: generation.at(),
     })
 }
 

@@ -9,7 +9,6 @@ ghost use Rattle.radiusd.specs.Lines.{listening_line, socket_fault_line};
 ghost use Rattle.radiusd.specs.Printing.{Prints, PrintsWhole, IsCutShort};
 ghost use Rattle.radiusd.specs.Statuses.{IsServing, number_of};
 
-use crate::generation::Generation;
 use crate::hub::Hub;
 use crate::install::install;
 use crate::left::Left;
@@ -18,6 +17,7 @@ use crate::printing::say;
 use crate::serving::serve;
 use crate::status::Status;
 use rad_edge::{Clock, Crew, Gate, Kit, KitFault, Listen, Luck, Octets, Shelf, Sink, Wire};
+use rad_site::Generation;
 use std::alloc::Global;
 use std::sync::Wait;
 

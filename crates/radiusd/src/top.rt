@@ -8,9 +8,6 @@ ghost use Rattle.radiusd.specs.Printing.{Prints};
 ghost use Rattle.radiusd.specs.Statuses.{number_of, status_of, IsRefused, FaultGives, SiteGives, NothingFailed, IsListed};
 ghost use Rattle.radiusd.specs.Words.{folder_in};
 
-use crate::build::fault_text;
-use crate::fault::BuildFault;
-use crate::generation::Generation;
 use crate::hub::Hub;
 use crate::printing::say;
 use crate::site::serve_site;
@@ -18,6 +15,7 @@ use crate::status::Status;
 use crate::words::{USAGE, folder_of};
 use rad_core::Policy;
 use rad_edge::{Clock, Crew, Files, Gate, Kit, Luck, NoMemory, Octets, Shelf, Sink, Wire};
+use rad_site::{BuildFault, Generation, fault_text};
 use std::alloc::Global;
 use std::sync::Wait;
 
@@ -37,6 +35,8 @@ fn status_of(fault: &BuildFault) -> Status
 {
     match fault {
         BuildFault::Conf(_) => Status::Configuration,
+        BuildFault::Dict(_) => Status::Configuration,
+        BuildFault::Users(_, _) => Status::Configuration,
         BuildFault::Tree(_) => Status::Configuration,
         BuildFault::ReadFault => Status::ReadFault,
         BuildFault::NoMemory => Status::NoMemory,

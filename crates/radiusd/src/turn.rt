@@ -7,10 +7,10 @@ ghost use Rattle.radiusd.specs.History.{history_of};
 ghost use Rattle.radiusd.specs.Turn.{AddsTurn, answers_of, FitsAnswer, IsCopied};
 
 use crate::entry::StoredEntry;
-use crate::generation::Generation;
 use crate::room::{DatagramRoom, Room, stored_arrival};
 use rad_core::{Arrival, Core, Ending, Outcome, Policy, StartAnswer, Started, Ticket};
 use rad_edge::{Gate, Point, Shelf};
+use rad_site::Generation;
 use std::alloc::Global;
 
 /// A reply that stands at the front of a buffer: how many octets it has, at most 4,096, and the place of its request.

@@ -4,6 +4,8 @@
 #![tactic(auto)]
 
 #[cfg(test)]
+mod dictionaries;
+#[cfg(test)]
 mod failing;
 #[cfg(test)]
 mod run;
@@ -13,3 +15,5 @@ mod serving;
 mod sites;
 #[cfg(test)]
 mod udp;
+#[cfg(test)]
+mod users;

@@ -41,16 +41,30 @@ pub fn words_of(alloc: Global, words: &[&str]) -> Result<Vec<String>, NoMemory> 
     Ok(list)
 }
 
-/// Files with this text as the configuration of the folder `site`.
-pub fn files_of(alloc: Global, conf: &[u8]) -> Result<MemFiles, NoMemory> {
+/// A file of a map: its path and its octets.
+pub type FileText<'a> = (&'a [u8], &'a [u8]);
+
+/// The path of the configuration of the folder `site`.
+const CONF: &[u8] = b"site/radiusd.conf";
+
+/// Files of one map. The reads of these numbers fail, counted from 1.
+pub fn files_in(
+    alloc: Global,
+    texts: &[FileText],
+    failing: Vec<u64>,
+) -> Result<MemFiles, NoMemory> {
     let mut map = Vec::new(alloc);
-    map.push((
-        Octets::of(alloc, b"site/radiusd.conf")?,
-        Octets::of(alloc, conf)?,
-    ))?;
+    for (path, octets) in texts {
+        map.push((Octets::of(alloc, path)?, Octets::of(alloc, octets)?))?;
+    }
     let mut maps = Vec::new(alloc);
     maps.push(map)?;
-    Ok(MemFiles::new(maps, Vec::new(alloc)))
+    Ok(MemFiles::new(maps, failing))
+}
+
+/// Files with this text as the configuration of the folder `site`.
+pub fn files_of(alloc: Global, conf: &[u8]) -> Result<MemFiles, NoMemory> {
+    files_in(alloc, &[(CONF, conf)], Vec::new(alloc))
 }
 
 /// A hub on which nothing has happened.
@@ -92,18 +106,17 @@ pub fn crew_of(
     Ok(crew)
 }
 
-/// Runs the server with these words on a site in memory, over this crew, hub and sink.
-pub fn run_over<R: Wait>(
+/// Runs the server with these words on a site in memory, over these files, this crew, hub and sink.
+pub fn run_files<R: Wait>(
     rt: &R,
     alloc: Global,
     words: &[&str],
-    conf: &[u8],
+    mut files: MemFiles,
     crew: &mut Memories,
     hub: &mut Hub<MemShelf>,
     mut out: MemSink,
 ) -> Result<Run, NoMemory> {
     let words = words_of(alloc, words)?;
-    let mut files = files_of(alloc, conf)?;
     let mut kits = Vec::new(alloc);
     let status = radiusd(
         rt,
@@ -118,6 +131,37 @@ pub fn run_over<R: Wait>(
     Ok(Run { status, out, kits })
 }
 
+/// Runs the server with these words on a site of a configuration alone, over this crew, hub and sink.
+pub fn run_over<R: Wait>(
+    rt: &R,
+    alloc: Global,
+    words: &[&str],
+    conf: &[u8],
+    crew: &mut Memories,
+    hub: &mut Hub<MemShelf>,
+    out: MemSink,
+) -> Result<Run, NoMemory> {
+    let files = files_of(alloc, conf)?;
+    run_files(rt, alloc, words, files, crew, hub, out)
+}
+
+/// Runs the server with these words on the site of these files, whose wire gives these datagrams from one source.
+pub fn run_site<R: Wait>(
+    rt: &R,
+    alloc: Global,
+    words: &[&str],
+    texts: &[FileText],
+    from: Peer,
+    datagrams: &[&[u8]],
+) -> Result<Run, NoMemory> {
+    let files = files_in(alloc, texts, Vec::new(alloc))?;
+    let script = script_of(alloc, from, datagrams)?;
+    let mut crew = crew_of(alloc, script, Vec::new(alloc), Vec::new(alloc))?;
+    let mut hub = hub_of(alloc)?;
+    let out = MemSink::new(alloc, Vec::new(alloc));
+    run_files(rt, alloc, words, files, &mut crew, &mut hub, out)
+}
+
 /// Runs the server with these words on a site in memory, whose wire gives these datagrams from one source.
 pub fn run_with<R: Wait>(
     rt: &R,
@@ -127,9 +171,5 @@ pub fn run_with<R: Wait>(
     from: Peer,
     datagrams: &[&[u8]],
 ) -> Result<Run, NoMemory> {
-    let script = script_of(alloc, from, datagrams)?;
-    let mut crew = crew_of(alloc, script, Vec::new(alloc), Vec::new(alloc))?;
-    let mut hub = hub_of(alloc)?;
-    let out = MemSink::new(alloc, Vec::new(alloc));
-    run_over(rt, alloc, words, conf, &mut crew, &mut hub, out)
+    run_site(rt, alloc, words, &[(CONF, conf)], from, datagrams)
 }

@@ -2,9 +2,9 @@ use Rattle.std.proofs.Common.{ℕ, List, [], Some, None, take, not, subst, sym, 
 use Rattle.rad_edge.specs.declared.crew.Kit.{Kit}
 use Rattle.rad_edge.specs.declared.wire.Heard.TheVariants as heard
 use Rattle.rad_core.specs.Entry.{Entry}
-use Rattle.radiusd.specs.declared.fault.BuildFault.{BuildFault}
+use Rattle.rad_site.specs.declared.fault.BuildFault.{BuildFault}
 use Rattle.radiusd.specs.declared.left.Left.TheVariants as leaving
-use Rattle.radiusd.specs.Site.{Site}
+use Rattle.rad_site.specs.Site.{Site}
 use Rattle.radiusd.specs.Told.{KitTells}
 use Rattle.radiusd.specs.History.{state_after}
 use Rattle.radiusd.specs.Leaving.{HearsLast}

@@ -6,9 +6,9 @@ use Rattle.rad_edge.specs.declared.fault.KitFault.TheVariants as fault
 use Rattle.rad_edge.specs.Crew.{Handed}
 use Rattle.rad_edge.specs.Telling.{Tells}
 use Rattle.rad_core.specs.Entry.{Entry}
-use Rattle.radiusd.specs.declared.fault.BuildFault.{BuildFault}
+use Rattle.rad_site.specs.declared.fault.BuildFault.{BuildFault}
 use Rattle.radiusd.specs.declared.status.Status.TheVariants as status
-use Rattle.radiusd.specs.Site.{Site}
+use Rattle.rad_site.specs.Site.{Site}
 use Rattle.radiusd.specs.Statuses.{number_of}
 use Rattle.radiusd.specs.Told.{KitTells, GrowsBy}
 use Rattle.radiusd.specs.Course.{Serving, IsExcused, Call, closing_lines}

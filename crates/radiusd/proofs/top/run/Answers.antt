@@ -10,7 +10,7 @@ use Rattle.radiusd.specs.Statuses.{number_of, NothingFailed}
 use Rattle.radiusd.proofs.Telling.{Tells-same}
 use Rattle.radiusd.proofs.Printings.{Prints-weaker}
 use Rattle.radiusd.proofs.Headlines.{headline_idle}
-use Rattle.radiusd.proofs.Statuses.{IsRefused-by_fault, unbuilt_course, serving_course, SiteGives-by_fault}
+use Rattle.radiusd.proofs.Statuses.{FaultGives-by_fault, IsRefused-by_fault, unbuilt_course, serving_course, SiteGives-by_fault}
 use Rattle.radiusd.proofs.top.run.Goals as goal
 
 pub returns-in_default-clause-headline : goal.returns-in_default-clause-headline
@@ -68,3 +68,7 @@ returns-in-Err-clause-served g c =
     SiteGives-by_fault (map string_bytes c.args.words.now) c.in-Some.folder.now c.in-Err.fault (g.F.Files.told c.args.files.now) (g.F.Files.told c.build.new.files)
     (NothingFailed g.W.Wire.failures_in_a_row (g.F.Files.faults c.args.files.now) (g.F.Files.faults c.build.new.files) (g.C.Crew.faults c.args.crew.now) (g.C.Crew.faults c.args.crew.now) (g.O.Sink.faults c.args.out.now) (g.O.Sink.faults c.refuse.new.out) c.args.kits.now.items)
     c.refuse.result (sym c.in-Some.ensures) c.in-Err.ensures.told c.refuse.ensures.status (λ is fine. fine.files (c.in-Err.ensures.faults.cause (ap Err is)))
+
+pub returns-in-Err-clause-found : goal.returns-in-Err-clause-found
+returns-in-Err-clause-found g c =
+    FaultGives-by_fault (map string_bytes c.args.words.now) c.in-Err.fault (g.F.Files.told c.args.files.now) (g.F.Files.told c.build.new.files) _ c.refuse.result c.in-Err.ensures.told c.refuse.ensures.status

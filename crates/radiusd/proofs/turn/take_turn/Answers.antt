@@ -4,8 +4,8 @@ use Rattle.rad_core.specs.Entry.{Start}
 use Rattle.rad_core.specs.Step.{Step}
 use Rattle.rad_core.specs.Answers.{arrived_of, answer_seen, IsTicketOf, GivesOutcome}
 use Rattle.rad_core.specs.Core.{state_of}
-use Rattle.radiusd.specs.Site.{Site}
-use Rattle.radiusd.specs.Meaning.{site_meaning}
+use Rattle.rad_site.specs.Site.{Site}
+use Rattle.rad_site.specs.Meaning.{site_meaning}
 use Rattle.radiusd.proofs.Turns.{IsUnfresh, turn_unfresh, turn_fresh, is_held}
 use Rattle.radiusd.proofs.turn.take_turn.Goals as goal
 

@@ -5,9 +5,9 @@ use Rattle.radiusd.specs.declared.entry.StoredEntry.{StoredEntry}
 use Rattle.std.specs.Arc.{arc_value}
 use Rattle.rad_core.specs.Entry.{Entry, Install}
 use Rattle.rad_core.specs.Core.{state_of}
-use Rattle.radiusd.specs.declared.fault.BuildFault.{BuildFault}
+use Rattle.rad_site.specs.declared.fault.BuildFault.{BuildFault}
 use Rattle.radiusd.specs.declared.entry.StoredEntry.TheVariants as stored
-use Rattle.radiusd.specs.Site.{Site}
+use Rattle.rad_site.specs.Site.{Site}
 use Rattle.radiusd.specs.HubSeen.{HubSeen}
 use Rattle.radiusd.specs.History.{history_of, Installs}
 use Rattle.radiusd.proofs.Turns.{history_of-push}

@@ -2,9 +2,9 @@ use Rattle.std.proofs.Common.{List, ap, subst}
 use Rattle.rad_core.specs.Entry.{Entry, Stop}
 use Rattle.rad_core.specs.State.{ServerState}
 use Rattle.rad_core.specs.Core.{state_of}
-use Rattle.radiusd.specs.declared.fault.BuildFault.{BuildFault}
+use Rattle.rad_site.specs.declared.fault.BuildFault.{BuildFault}
 use Rattle.radiusd.specs.declared.entry.StoredEntry.TheVariants as stored
-use Rattle.radiusd.specs.Site.{Site}
+use Rattle.rad_site.specs.Site.{Site}
 use Rattle.radiusd.specs.HubSeen.{HubSeen}
 use Rattle.radiusd.specs.History.{history_of, Adds}
 use Rattle.radiusd.proofs.Turns.{history_of-push}

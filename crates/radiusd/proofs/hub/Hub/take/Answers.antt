@@ -2,8 +2,8 @@ use Rattle.std.proofs.Common.{List, ap, subst}
 use Rattle.rad_core.specs.Entry.{Entry}
 use Rattle.rad_core.specs.Answers.{arrived_of}
 use Rattle.rad_core.specs.Core.{state_of}
-use Rattle.radiusd.specs.declared.fault.BuildFault.{BuildFault}
-use Rattle.radiusd.specs.Site.{Site}
+use Rattle.rad_site.specs.declared.fault.BuildFault.{BuildFault}
+use Rattle.rad_site.specs.Site.{Site}
 use Rattle.radiusd.specs.HubSeen.{HubSeen}
 use Rattle.radiusd.specs.History.{history_of, state_after}
 use Rattle.radiusd.specs.Turn.{AddsTurn, answers_of}

@@ -1,0 +1,12 @@
+pub mod BlockItems
+pub mod Requests
+pub mod Judging
+pub mod Running
+pub mod Kept
+pub mod Finding
+pub mod ModuleCases
+pub mod ModuleTurns
+pub mod UsersFiles
+pub mod Sites
+pub mod Dictionaries
+pub mod Building

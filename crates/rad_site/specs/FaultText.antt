@@ -1,0 +1,60 @@
+-- The printed text of a fault, `FILE[LINE]: REASON`. The reasons are the names of the variants. This project's own.
+use Rattle.std.specs.Prelude.{ℕ, List, ◌++◌, codes}
+use Rattle.std.specs.Fmt.{decimal}
+use Rattle.rad_edge.specs.declared.files.Place.{Place}
+use Rattle.rad_conf.specs.declared.fault.ConfFault.{ConfFault}
+use Rattle.rad_conf.specs.declared.fault.ConfFault.TheVariants as conf
+use Rattle.rad_dict.specs.declared.fault.DictFault.{DictFault}
+use Rattle.rad_dict.specs.declared.fault.DictFault.TheVariants as dict
+use Rattle.mod_files.specs.declared.fault.UsersFault.{UsersFault}
+use Rattle.mod_files.specs.declared.fault.UsersFault.TheVariants as users
+use Rattle.rad_site.specs.declared.fault.TreeFault.{TreeFault}
+use Rattle.rad_site.specs.declared.fault.TreeFault.TheVariants as tree
+use Rattle.rad_site.specs.declared.fault.BuildFault.{BuildFault}
+use Rattle.rad_site.specs.declared.fault.BuildFault.TheVariants as fault
+
+-- A reason at its place.
+abbrev pub placed_text : Place → List ℕ → List ℕ
+placed_text place reason = place.file ++ codes "[" ++ decimal place.line ++ codes "]: " ++ reason
+
+-- Read faults and want of memory have no place.
+abbrev pub read_fault_text : List ℕ
+read_fault_text = codes "read fault"
+
+abbrev pub memory_text : List ℕ
+memory_text = codes "memory"
+
+abbrev pub conf_fault_text : ConfFault → List ℕ
+conf_fault_text (conf.Unclosed place) = placed_text place (codes "Unclosed")
+conf_fault_text (conf.Stray place) = placed_text place (codes "Stray")
+conf_fault_text (conf.Missing place) = placed_text place (codes "Missing")
+conf_fault_text (conf.TooLong place) = placed_text place (codes "TooLong")
+conf_fault_text (conf.NotBuilt place) = placed_text place (codes "NotBuilt")
+conf_fault_text conf.ReadFault = read_fault_text
+conf_fault_text conf.NoMemory = memory_text
+
+abbrev pub tree_fault_text : TreeFault → List ℕ
+tree_fault_text (tree.NotBuilt place) = placed_text place (codes "NotBuilt")
+tree_fault_text tree.NoMemory = memory_text
+
+abbrev pub dict_fault_text : DictFault → List ℕ
+dict_fault_text (dict.BadLine place) = placed_text place (codes "BadLine")
+dict_fault_text (dict.UnknownVendor place) = placed_text place (codes "UnknownVendor")
+dict_fault_text (dict.Taken place) = placed_text place (codes "Taken")
+dict_fault_text (dict.TooDeep place) = placed_text place (codes "TooDeep")
+dict_fault_text (dict.Missing place) = placed_text place (codes "Missing")
+dict_fault_text (dict.TooLong place) = placed_text place (codes "TooLong")
+dict_fault_text dict.ReadFault = read_fault_text
+dict_fault_text dict.NoMemory = memory_text
+
+abbrev pub users_fault_text : List ℕ → UsersFault → List ℕ
+users_fault_text file (users.NotBuilt line) = placed_text (record { file = file; line = line }) (codes "NotBuilt")
+users_fault_text file users.NoMemory = memory_text
+
+abbrev pub fault_text : BuildFault → List ℕ
+fault_text (fault.Conf wrong) = conf_fault_text wrong
+fault_text (fault.Dict wrong) = dict_fault_text wrong
+fault_text (fault.Users file wrong) = users_fault_text file wrong
+fault_text (fault.Tree wrong) = tree_fault_text wrong
+fault_text fault.ReadFault = read_fault_text
+fault_text fault.NoMemory = memory_text

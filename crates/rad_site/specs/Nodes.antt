@@ -1,0 +1,61 @@
+-- How the nodes of a block are read: in order, up to the first fault. This project's own.
+use Rattle.std.specs.Prelude.{◌≡◌, List, [], ◌∷◌, Option, Some, None, Result, Ok, Err}
+use Rattle.rad_edge.specs.declared.files.Place.{Place}
+use Rattle.rad_conf.specs.declared.tree.Node.{Node}
+use Rattle.rad_site.specs.declared.fault.BuildFault.{BuildFault}
+use Rattle.rad_site.specs.declared.fault.BuildFault.TheVariants as fault
+use Rattle.rad_site.specs.declared.fault.TreeFault.TheVariants as tree
+
+infixl 10 ◌>>=◌
+abbrev pub ◌>>=◌ : {A B : Type 0} → Result A BuildFault → (A → Result B BuildFault) → Result B BuildFault
+(Ok x) >>= f = f x
+(Err e) >>= f = Err e
+
+-- What a function answered is what reading gives, unless memory ran out. No file is read.
+abbrev pub Fails : {Y : Type 0} → BuildFault → Result Y BuildFault → Type 0
+Fails (fault.Conf wrong) read = read ≡ Err (fault.Conf wrong)
+Fails (fault.Dict wrong) read = read ≡ Err (fault.Dict wrong)
+Fails (fault.Users file wrong) read = read ≡ Err (fault.Users file wrong)
+Fails (fault.Tree wrong) read = read ≡ Err (fault.Tree wrong)
+Fails fault.ReadFault read = ⊥
+Fails fault.NoMemory read = Unit {0}
+
+abbrev pub Gives : {Y : Type 0} → Result Y BuildFault → Result Y BuildFault → Type 0
+Gives (Ok x) read = read ≡ Ok x
+Gives (Err e) read = Fails e read
+
+-- What isn't built is refused at its place.
+abbrev pub refused : {A : Type 0} → Place → Result A BuildFault
+refused place = Err (fault.Tree (tree.NotBuilt place))
+
+-- What has to be there is refused at this place where it is missing.
+abbrev pub needed : {A : Type 0} → Place → Option A → Result A BuildFault
+needed place None = refused place
+needed place (Some x) = Ok x
+
+-- The one node of a list, as it is read. Where there is none, this is answered; a second one is refused at its place.
+unfoldable pub one_of : {A : Type 0} → Result A BuildFault → (Node → Result A BuildFault) → List Node → Result A BuildFault
+one_of missing read [] = missing
+one_of missing read (node ∷ []) = read node
+one_of missing read (node ∷ second ∷ more) = do
+  first ← read node
+  refused second.place
+
+-- The same of a node that has to be there: where it is missing, that is refused at the place around it.
+abbrev pub only : {A : Type 0} → Place → (Node → Result A BuildFault) → List Node → Result A BuildFault
+only place read nodes = one_of (refused place) read nodes
+
+-- Each node of a list, as it is read.
+unfoldable pub each : {A : Type 0} → (Node → Result A BuildFault) → List Node → Result (List A) BuildFault
+each read [] = Ok []
+each read (node ∷ nodes) = do
+  first ← read node
+  others ← each read nodes
+  Ok (first ∷ others)
+
+-- What is known of a block after each of its nodes.
+unfoldable pub after_each : {S : Type 0} → (S → Node → Result S BuildFault) → S → List Node → Result S BuildFault
+after_each step known [] = Ok known
+after_each step known (node ∷ nodes) = do
+  next ← step known node
+  after_each step next nodes

@@ -1,0 +1,26 @@
+//! Faults at their places.
+
+ghost use Rattle.std.specs.Prelude.{◌≡◌, IfOk};
+ghost use Rattle.rad_site.specs.Nodes.{Gives, refused};
+
+use crate::fault::{BuildFault, TreeFault};
+use rad_edge::{NoMemory, Octets, Place};
+use std::alloc::Global;
+
+/// A copy of a place.
+fn copy_of(alloc: Global, place: &Place) -> Result<Place, NoMemory>
+    ensures { IfOk result (λ copy. copy ≡ place.now) }
+{
+    Ok(Place {
+        file: Octets::of(alloc, place.file.as_slice())?,
+        line: place.line,
+    })
+}
+
+/// Refuses what isn't built at a place.
+pub(crate) fn refuse<T>(alloc: Global, place: &Place) -> Result<T, BuildFault>
+    ensures { Gives result (refused place.now) }
+{
+    let place = copy_of(alloc, place)?;
+    Err(BuildFault::Tree(TreeFault::NotBuilt(place)))
+}

@@ -1,0 +1,106 @@
+//! Why a site can't be built.
+
+ghost use Rattle.std.specs.Prelude.{◌≡◌};
+
+use mod_files::UsersFault;
+use rad_conf::ConfFault;
+use rad_dict::DictFault;
+use rad_edge::{NoMemory, Octets, Place};
+use std::alloc::{AllocError, AllocFailed};
+use thiserror::Error;
+
+/// A statement or a section that can't be built.
+#[derive(Debug, Drop, Error)]
+pub enum TreeFault {
+    /// It isn't built yet, at its first line.
+    #[error("NotBuilt")]
+    NotBuilt(Place),
+    #[error("NoMemory")]
+    NoMemory,
+}
+
+/// Why a generation can't be built: the first fault of its files.
+/// Want of memory and a read fault are always variants of their own, never inside another.
+#[derive(Debug, Drop, Error)]
+pub enum BuildFault {
+    #[error("Conf")]
+    Conf(ConfFault),
+    #[error("Dict")]
+    Dict(DictFault),
+    /// A users file, by its name, and what is wrong in it.
+    #[error("Users")]
+    Users(Octets, UsersFault),
+    #[error("Tree")]
+    Tree(TreeFault),
+    #[error("ReadFault")]
+    ReadFault,
+    #[error("NoMemory")]
+    NoMemory,
+}
+
+impl From<ConfFault> for BuildFault {
+    ghost use Rattle.rad_site.specs.ConfFault.{fault_of};
+
+    ghost from_gives = { λ e fault. fault ≡ fault_of e };
+
+    fn from(e: ConfFault) -> BuildFault {
+        match e {
+            ConfFault::ReadFault => BuildFault::ReadFault,
+            ConfFault::NoMemory => BuildFault::NoMemory,
+            ConfFault::Unclosed(place) => BuildFault::Conf(ConfFault::Unclosed(place)),
+            ConfFault::Stray(place) => BuildFault::Conf(ConfFault::Stray(place)),
+            ConfFault::Missing(place) => BuildFault::Conf(ConfFault::Missing(place)),
+            ConfFault::TooLong(place) => BuildFault::Conf(ConfFault::TooLong(place)),
+            ConfFault::NotBuilt(place) => BuildFault::Conf(ConfFault::NotBuilt(place)),
+        }
+    }
+}
+
+impl From<DictFault> for BuildFault {
+    ghost use Rattle.rad_site.specs.DictFault.{fault_of};
+
+    ghost from_gives = { λ e fault. fault ≡ fault_of e };
+
+    fn from(e: DictFault) -> BuildFault {
+        match e {
+            DictFault::ReadFault => BuildFault::ReadFault,
+            DictFault::NoMemory => BuildFault::NoMemory,
+            DictFault::BadLine(place) => BuildFault::Dict(DictFault::BadLine(place)),
+            DictFault::UnknownVendor(place) => BuildFault::Dict(DictFault::UnknownVendor(place)),
+            DictFault::Taken(place) => BuildFault::Dict(DictFault::Taken(place)),
+            DictFault::TooDeep(place) => BuildFault::Dict(DictFault::TooDeep(place)),
+            DictFault::Missing(place) => BuildFault::Dict(DictFault::Missing(place)),
+            DictFault::TooLong(place) => BuildFault::Dict(DictFault::TooLong(place)),
+        }
+    }
+}
+
+impl From<NoMemory> for BuildFault {
+    ghost use Rattle.rad_site.specs.declared.fault.BuildFault.TheVariants as fault;
+
+    ghost from_gives = { λ _ e. e ≡ fault.NoMemory };
+
+    fn from(_e: NoMemory) -> BuildFault {
+        BuildFault::NoMemory
+    }
+}
+
+impl From<AllocError> for BuildFault {
+    ghost use Rattle.rad_site.specs.declared.fault.BuildFault.TheVariants as fault;
+
+    ghost from_gives = { λ _ e. e ≡ fault.NoMemory };
+
+    fn from(_e: AllocError) -> BuildFault {
+        BuildFault::NoMemory
+    }
+}
+
+impl<T: Drop> From<AllocFailed<T>> for BuildFault {
+    ghost use Rattle.rad_site.specs.declared.fault.BuildFault.TheVariants as fault;
+
+    ghost from_gives = { λ _ e. e ≡ fault.NoMemory };
+
+    fn from(_e: AllocFailed<T>) -> BuildFault {
+        BuildFault::NoMemory
+    }
+}

@@ -1,0 +1,29 @@
+use rad_edge::Octets;
+use rad_tables::Code;
+use sqlite_items::Items;
+
+/// A statement of a section, after unlang(5).
+#[derive(Debug, Drop)]
+pub enum Statement {
+    /// A return code's name.
+    Code(Code),
+    /// `files`
+    Files,
+    /// `pap`
+    Pap,
+    /// `update control { Auth-Type := NAME }`
+    AuthType(Octets),
+}
+
+/// The statements of a section, in order.
+pub type Statements = Items<Statement>;
+
+/// `Auth-Type NAME { .. }` of an authenticate section.
+#[derive(Debug, Drop)]
+pub struct Subsection {
+    pub name: Octets,
+    pub statements: Statements,
+}
+
+/// The subsections of an authenticate section, in order.
+pub type Subsections = Items<Subsection>;

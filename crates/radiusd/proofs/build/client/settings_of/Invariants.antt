@@ -1,7 +1,0 @@
-use Rattle.std.proofs.Common.{◌≡◌, drop}
-use Rattle.radiusd.specs.Nodes.{after_each}
-use Rattle.radiusd.specs.ClientBlock.{no_settings, with_setting}
-use Rattle.radiusd.proofs.build.client.settings_of.Given as goal
-
-abbrev pub invariant-loop-item : goal.invariant-loop-item
-invariant-loop-item l = after_each with_setting l.known (drop l.item-index l.items) ≡ after_each with_setting no_settings l.items
