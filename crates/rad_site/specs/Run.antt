@@ -15,21 +15,21 @@ use Rattle.rad_site.specs.Pap.{pap_done}
 
 -- The lists after a statement, and its code. A return code's name gives that code, and an update noop.
 unfoldable pub statement_done : List Entry → Section → Statement → PairLists → PairLists × Code
-statement_done users section (statement.Code answer) lists = (lists, answer)
-statement_done users section statement.Files lists = files_done users lists
-statement_done users section statement.Pap lists = pap_done section lists
-statement_done users section (statement.AuthType name) lists = with_edit (auth_type_set name) code.Noop lists
+statement_done users the_section (statement.Code answer) lists = (lists, answer)
+statement_done users the_section statement.Files lists = files_done users lists
+statement_done users the_section statement.Pap lists = pap_done the_section lists
+statement_done users the_section (statement.AuthType name) lists = with_edit (auth_type_set name) code.Noop lists
 
 -- The lists after the statements, and the children that they are: they run in order, up to the first that ends the
 -- section.
 unfoldable pub run_of : List Entry → Section → List Statement → PairLists → PairLists × List Child
-run_of users section [] lists = (lists, [])
-run_of users section (first ∷ others) lists =
-    let done = statement_done users section first lists in
-    let child = child_of section done.1 in
-    if ends child then (done.0, child ∷ []) else (let more = run_of users section others done.0 in (more.0, child ∷ more.1))
+run_of users the_section [] lists = (lists, [])
+run_of users the_section (first ∷ others) lists =
+    let done = statement_done users the_section first lists in
+    let child = child_of the_section done.1 in
+    if ends child then (done.0, child ∷ []) else (let more = run_of users the_section others done.0 in (more.0, child ∷ more.1))
 
 -- The lists after a section, and its code.
 unfoldable pub section_done : List Entry → Section → List Statement → PairLists → PairLists × Code
-section_done users section statements lists =
-    let run = run_of users section statements lists in (run.0, unwrap_or (judged run.1) (default_code section))
+section_done users the_section statements lists =
+    let run = run_of users the_section statements lists in (run.0, unwrap_or (judged run.1) (default_code the_section))
