@@ -1,4 +1,5 @@
 pub mod Comparison
+pub mod Kinds
 pub mod Pairs
 pub mod PairLists
 pub mod Edit

@@ -2,7 +2,7 @@ ghost use Rattle.std.specs.Prelude.{◌≡◌, ℕ, ◌<◌, ◌≤◌, ◌^◌,
 ghost use Rattle.std.specs.Option.{option_copied};
 ghost use Rattle.rad_value.specs.Edit.{lists_edited, IsFullFor, tried};
 ghost use Rattle.rad_value.specs.PairLists.{no_pairs, list_of, with_list};
-ghost use Rattle.rad_value.specs.Pairs.{pairs_of, values_of};
+ghost use Rattle.rad_value.specs.Pairs.{pairs_of, values_of, first_text};
 
 use crate::{Edit, EditFault, ListName, Pair, Updated, Value, listed};
 use rad_edge::NoMemory;
@@ -67,6 +67,17 @@ impl Lists {
         ensures { option_copied result ≡ slice_get (values_of attr (list_of self.now list)) n }
     {
         listed::nth(self.pairs(list), attr, n as usize)
+    }
+
+    /// The text of the list's first pair of the attribute. A value that is no text counts as none, and no later pair
+    /// is looked for.
+    pub fn first_text(&self, list: ListName, attr: AttrId) -> Option<&[u8]>
+        ensures { option_copied result ≡ first_text attr (list_of self.now list) }
+    {
+        match self.nth(list, attr, 0) {
+            Some(value) => value.text(),
+            None => None,
+        }
     }
 
     /// How many pairs of the attribute the list has.

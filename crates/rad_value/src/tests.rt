@@ -292,3 +292,32 @@ fn values_of_one_kind_are_compared(rt: HostRuntime) -> Result<(), Fail> {
     }
     Ok(())
 }
+
+/// Pairs of a list, each by its attribute's letter, its value's kind and its text.
+const TEXTS: [(u8, char, &str); 4] = [
+    (b'a', 't', "one"),
+    (b'a', 't', "two"),
+    (b'b', 'n', "1"),
+    (b'b', 't', "three"),
+];
+
+// A first value that is no text counts as none, and the text behind it isn't looked for.
+#[test]
+fn the_text_of_the_first_pair_counts(rt: HostRuntime) -> Result<(), Fail> {
+    let mut lists = Lists::new(rt.alloc());
+    for (letter, kind, text) in TEXTS {
+        let attr = attr_of(letter);
+        let value = value_of(rt.alloc(), kind, text)?;
+        if lists.len(ListName::Reply) < 1000 {
+            lists.push(ListName::Reply, Pair { attr, value })?;
+        }
+    }
+    for (letter, want) in [(b'a', "one"), (b'b', "none"), (b'c', "none")] {
+        let text = match lists.first_text(ListName::Reply, attr_of(letter)) {
+            Some(text) => text,
+            None => b"none",
+        };
+        assert_eq!(rt; text, want.as_bytes(), "{letter}");
+    }
+    Ok(())
+}

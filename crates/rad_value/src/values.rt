@@ -1,4 +1,6 @@
 ghost use Rattle.std.specs.Prelude.{◌≡◌, IfOk};
+ghost use Rattle.std.specs.Option.{option_copied};
+ghost use Rattle.rad_value.specs.Pairs.{text_of};
 
 use rad_edge::{NoMemory, Octets};
 use rad_tables::AttrId;
@@ -31,6 +33,16 @@ impl Value {
             Value::Byte(number) => Value::Byte(*number),
             Value::Short(number) => Value::Short(*number),
         })
+    }
+
+    /// The text, where the value is one.
+    pub(crate) fn text(&self) -> Option<&[u8]>
+        ensures { option_copied result ≡ text_of self.now }
+    {
+        match self {
+            Value::Text(text) => Some(text.as_slice()),
+            _ => None,
+        }
     }
 }
 

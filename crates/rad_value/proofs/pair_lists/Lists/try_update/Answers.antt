@@ -1,4 +1,3 @@
-use Rattle.std.proofs.Common.{ap, sym, ◌∙◌}
 use Rattle.rad_value.proofs.Trying.{full_is, free_is}
 use Rattle.rad_value.proofs.pair_lists.Lists.try_update.Goals as goal
 
