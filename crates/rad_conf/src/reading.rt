@@ -47,8 +47,8 @@ fn conf_in(alloc: Global, name: &[u8], text: &[u8]) -> Result<Conf, ConfFault>
     conf_of(alloc, name, text)
 }
 
-/// The path of a file in a folder.
-fn path_of(alloc: Global, dir: &str, name: &str) -> Result<String, AllocError>
+/// The path of a file in a folder: the folder's, a `/` and the file's name.
+pub fn path_of(alloc: Global, dir: &str, name: &str) -> Result<String, AllocError>
     ensures { IfOk result (λ path. string_bytes path ≡ path_of dir.now name.now) }
 {
     let mut path = String::from_str(alloc, dir)?;

@@ -276,6 +276,8 @@ fn lines_answer(alloc: Global, count: u32, want: &str) -> Result<bool, AllocErro
 #[test]
 fn a_file_is_read_whole_or_refused_whole(rt: HostRuntime) -> Result<(), Fail> {
     let alloc = rt.alloc();
+    let path = path_of(alloc, "etc", "radiusd.conf")?;
+    assert_eq!(rt; path.as_str(), "etc/radiusd.conf");
     assert!(rt; file_answers(alloc, Everywhere::Holds(b"ok"), "1:ok;")?);
     assert!(rt; file_answers(alloc, Everywhere::Holds(b"}"), "radiusd.conf[1]: Stray")?);
     assert!(rt; file_answers(alloc, Everywhere::Missing, "radiusd.conf[0]: Missing")?);
