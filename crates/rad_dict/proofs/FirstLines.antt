@@ -1,5 +1,5 @@
 -- The first line of a text, and the others.
-use Rattle.std.proofs.Common.{◌≡◌, ℕ, zero, suc, ◌+◌, ◌<◌, Bool, true, false, cond, eqb, List, [], ◌∷◌, length, take, drop, refl, sym, ap, ◌∙◌, arith}
+use Rattle.std.proofs.Common.{◌≡◌, ℕ, zero, suc, ◌<◌, Bool, true, false, cond, eqb, List, [], ◌∷◌, length, take, drop, refl, sym, ap, ◌∙◌, arith}
 use Rattle.rad_dict.specs.TextLines.{in_front, lines_of, line_len}
 
 by_end : (c : ℕ) (rest : List ℕ) (b : Bool) → (0 < length rest → lines_of rest ≡ take (line_len rest) rest ∷ lines_of (drop (suc (line_len rest)) rest))

@@ -1,6 +1,10 @@
+pub mod Lookups
 pub mod PlacesLemmas
 pub mod Indexed
 pub mod Statements
 pub mod FirstLines
 pub mod Tellings
 pub mod Readings
+pub mod Growing
+pub mod BaseDictionary
+pub mod BaseStays

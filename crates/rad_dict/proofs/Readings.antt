@@ -1,5 +1,5 @@
 -- Files that are read line by line, and what they include.
-use Rattle.std.proofs.Common.{◌≡◌, ℕ, zero, suc, ◌+◌, ◌-◌, ◌<◌, ◌≢◌, Bool, true, false, cond, List, [], ◌∷◌, Option, Some, None, Result, Ok, Err, length, refl, sym, ap, subst, ◌∙◌, arith}
+use Rattle.std.proofs.Common.{◌≡◌, ℕ, zero, suc, ◌+◌, ◌-◌, ◌≢◌, Bool, true, false, List, [], ◌∷◌, Option, Some, None, Result, Ok, Err, length, refl, sym, ap, subst, ◌∙◌, arith}
 use Rattle.std.specs.Str.{IsUtf8, is_utf8}
 use Rattle.std.proofs.lemmas.Str.{IsUtf8-from_is_utf8, is_utf8-from_IsUtf8}
 use Rattle.rad_edge.specs.declared.files.Place.{Place}
@@ -12,10 +12,9 @@ use Rattle.rad_dict.specs.declared.reading.Reading.{Reading}
 use Rattle.rad_dict.specs.declared.step.Step.{Step}
 use Rattle.rad_dict.specs.declared.step.Step.TheVariants as step
 use Rattle.rad_dict.specs.Answers.{IsFault, IsAnswer}
-use Rattle.rad_dict.specs.Steps.{joined, folder, place_at, step_of}
-use Rattle.rad_dict.specs.Includes.{◌>>=◌, found_at, text_of, Include, went, ended, lines_read, counted, source_at, include_read, text_read, dict_read, last_part, dict_from, dict_of}
+use Rattle.rad_dict.specs.Steps.{joined, place_at, step_of}
+use Rattle.rad_dict.specs.Includes.{◌>>=◌, found_at, text_of, Include, went, ended, lines_read, counted, source_at, include_read, text_read, last_part, dict_from, dict_of}
 use Rattle.rad_dict.specs.TextLines.{lines_of}
-use Rattle.rad_dict.specs.FirstReading.{first_reading}
 use Rattle.rad_dict.specs.Definitions.{Definitions}
 use Rattle.rad_dict.proofs.Tellings.{Tells-trans}
 
@@ -191,40 +190,21 @@ told_then root left file line reading rest here others total place path at_sourc
     going source)
     answered
 
--- The dictionary of a path, by its file's text.
+-- The dictionary of a path whose file isn't there.
 pub dict_missing : (path file : List ℕ) (files : List File) → file ≡ last_part path → octets_at path files ≡ None → dict_of path files ≡ Err (fault.Missing (place_at file 0))
 unfolding dict_of
 dict_missing path file files same e = ap (dict_from path files) e ∙ ap (λ (at : List ℕ). Err (fault.Missing (place_at at 0))) (sym same)
 
-dict_found : (path root file text : List ℕ) (files : List File) (reading : Reading) → root ≡ folder path → file ≡ last_part path → reading ≡ first_reading → octets_at path files ≡ Some text
-    → dict_of path files ≡ dict_read (text_read (include_read files root 16) file text reading)
+-- The dictionary of a file that was read, by its text.
+pub told_dict : (path text read : List ℕ) (answer : Result Definitions DictFault) (a b c : Option FilesTold) → read ≡ text
+    → Tells a b (λ (before now : FilesTold). (now ≡ before) × (octets_at path before.present ≡ Some text))
+    → Tells b c (λ (before now : FilesTold). (now ≡ before) × IsAnswer (dict_from path before.present (Some read)) answer)
+    → Tells a c (λ (before now : FilesTold). (now ≡ before) × IsAnswer (dict_of path before.present) answer)
 unfolding dict_of
-dict_found path root file text files reading same_root same_file same_reading e =
-    ap (dict_from path files) e ∙ sym (rw (same_root, same_file, same_reading) refl)
-
-read_is : (said answer : Result Reading DictFault) → IsAnswer said answer → IsAnswer (dict_read said) (dict_read answer)
-read_is said (Ok reading) e = ap dict_read e
-read_is said (Err (fault.BadLine place)) e = ap dict_read e
-read_is said (Err (fault.UnknownVendor place)) e = ap dict_read e
-read_is said (Err (fault.Taken place)) e = ap dict_read e
-read_is said (Err (fault.TooDeep place)) e = ap dict_read e
-read_is said (Err (fault.Missing place)) e = ap dict_read e
-read_is said (Err (fault.TooLong place)) e = ap dict_read e
-read_is said (Err fault.ReadFault) e = tt
-read_is said (Err fault.NoMemory) e = tt
-
-pub told_dict : (path at root file text read : List ℕ) (reading : Reading) (answer : Result Reading DictFault) (a b c : Option FilesTold)
-    → at ≡ path → root ≡ folder path → file ≡ last_part path → reading ≡ first_reading → read ≡ text
-    → Tells a b (λ (before now : FilesTold). (now ≡ before) × (octets_at at before.present ≡ Some text))
-    → Tells b c (λ (before now : FilesTold). (now ≡ before) × IsAnswer (text_read (include_read before.present root 16) file read reading) answer)
-    → Tells a c (λ (before now : FilesTold). (now ≡ before) × IsAnswer (dict_of path before.present) (dict_read answer))
-told_dict path at root file text read reading answer a b c same_path same_root same_file same_reading same_text =
-    Tells-trans (λ (before now : FilesTold). (now ≡ before) × IsAnswer (dict_of path before.present) (dict_read answer)) a b c
-    (λ (x y z : FilesTold) (first : (y ≡ x) × (octets_at at x.present ≡ Some text)) (second : (z ≡ y) × IsAnswer (text_read (include_read y.present root 16) file read reading) answer). (
+told_dict path text read answer a b c same =
+    Tells-trans (λ (before now : FilesTold). (now ≡ before) × IsAnswer (dict_from path before.present (octets_at path before.present)) answer) a b c
+    (λ (x y z : FilesTold) (first : (y ≡ x) × (octets_at path x.present ≡ Some text)) (second : (z ≡ y) × IsAnswer (dict_from path y.present (Some read)) answer). (
       second.0 ∙ first.0,
-      let from_x = subst (λ (told : FilesTold). IsAnswer (text_read (include_read told.present root 16) file read reading) answer) first.0 second.1 in
-          let of_text = subst (λ (all : List ℕ). IsAnswer (text_read (include_read x.present root 16) file all reading) answer) same_text from_x in
-          subst (λ (said : Result Definitions DictFault). IsAnswer said (dict_read answer))
-          (sym (dict_found path root file text x.present reading same_root same_file same_reading (ap (λ (p : List ℕ). octets_at p x.present) (sym same_path) ∙ first.1)))
-          (read_is (text_read (include_read x.present root 16) file text reading) answer of_text),
+      subst (λ (found : Option (List ℕ)). IsAnswer (dict_from path x.present found) answer) (ap (λ (all : List ℕ). Some all) same ∙ sym first.1)
+          (subst (λ (told : FilesTold). IsAnswer (dict_from path told.present (Some read)) answer) first.0 second.1),
     ))

@@ -1,11 +1,10 @@
 -- What a statement makes known, from what was looked up for it.
-use Rattle.std.proofs.Common.{◌≡◌, ℕ, ◌<◌, ◌≤◌, List, Option, Some, None, option_map, Result, Ok, Err, refl, sym, ap, ◌∙◌, arith}
-use Rattle.std.proofs.lemmas.Bool.{cond-true, cond-false, lt-ltb, le-ltb}
+use Rattle.std.proofs.Common.{◌≡◌, ℕ, ◌<◌, List, Option, Some, None, option_map, sym, ap, ◌∙◌}
+use Rattle.std.proofs.lemmas.Bool.{cond-true, lt-ltb}
 use Rattle.rad_tables.specs.declared.attributes.AttrId.{AttrId}
 use Rattle.rad_tables.specs.declared.attributes.Kind.{Kind}
 use Rattle.rad_dict.specs.declared.definitions.AttrDef.{AttrDef}
 use Rattle.rad_dict.specs.declared.reading.Reading.{Reading}
-use Rattle.rad_dict.specs.declared.fault.Wrong.{Wrong}
 use Rattle.rad_dict.specs.Definitions.{attr_named}
 use Rattle.rad_dict.specs.Lines.{attribute, value}
 use Rattle.rad_dict.specs.Readings.{id_of, attr_of_id, attr_defined, values_below, value_defined, value_below, value_of_attr, after}

@@ -1,6 +1,6 @@
 -- Dictionary files that are read, with the files that they include. After the manual page dictionary(5) of FreeRADIUS; the
 -- limits, and the order of faults, are this project's own.
-use Rattle.std.specs.Prelude.{◌≡◌, ℕ, zero, suc, ◌+◌, ◌==◌, List, [], ◌∷◌, ◌++◌, length, take, drop, slice_index, Option, Some, None, Result, Ok, Err, nat_lt, if◌then◌else◌}
+use Rattle.std.specs.Prelude.{ℕ, zero, suc, ◌+◌, List, [], ◌∷◌, length, drop, Option, Some, None, Result, Ok, Err, nat_lt, if◌then◌else◌}
 use Rattle.std.specs.Str.{is_utf8}
 use Rattle.rad_edge.specs.declared.files.Place.{Place}
 use Rattle.rad_edge.specs.Files.{File, octets_at}

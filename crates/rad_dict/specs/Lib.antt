@@ -6,6 +6,7 @@ pub mod BaseAttributes
 pub mod BaseValues
 pub mod Definitions
 pub mod Base
+pub mod EveryDictionary
 pub mod LineWords
 pub mod LineNumbers
 pub mod NameForms

@@ -1,6 +1,6 @@
 -- The lines of a dictionary file, by their words: what a line states, or the file that it includes. Keywords and kinds are
 -- read without regard to ASCII case. After the manual page dictionary(5) of FreeRADIUS.
-use Rattle.std.specs.Prelude.{ℕ, Bool, ◌&&◌, List, Option, Some, None, codes, if◌then◌else◌}
+use Rattle.std.specs.Prelude.{ℕ, Bool, ◌&&◌, List, Option, Some, None, IsTrue, codes, if◌then◌else◌}
 use Rattle.std.specs.Str.{str_eq_ignore_ascii_case}
 use Prim.Native.String.{String}
 use Rattle.rad_tables.specs.declared.attributes.Kind.{Kind}
@@ -27,6 +27,19 @@ pub data Statement : Type 0 where
 pub data Line : Type 0 where
   states : Statement → Line
   includes : List ℕ → Line
+
+-- The name that a statement gives to an attribute or a value is of its form.
+abbrev pub IsWellNamed : Statement → Type 0
+IsWellNamed nothing = Unit {0}
+IsWellNamed (attribute name number kind) = IsTrue (is_attr_name name)
+IsWellNamed (value attr name number) = IsTrue (is_value_name name)
+IsWellNamed (vendor name number) = Unit {0}
+IsWellNamed (begins name) = Unit {0}
+IsWellNamed (ends name) = Unit {0}
+
+abbrev pub IsWellNamedLine : Line → Type 0
+IsWellNamedLine (states one) = IsWellNamed one
+IsWellNamedLine (includes path) = Unit {0}
 
 -- A statement and a line as they were read.
 abbrev pub statement_of : said.Statement → Statement

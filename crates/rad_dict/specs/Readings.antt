@@ -1,6 +1,6 @@
 -- What the statements of dictionary files make known, one after another. After the manual page dictionary(5) of FreeRADIUS;
 -- what may stand twice, and that the base's attributes stay, is this project's own.
-use Rattle.std.specs.Prelude.{◌≡◌, ℕ, ◌+◌, Bool, false, ◌&&◌, ◌||◌, ◌==◌, List, [], ◌∷◌, ◌++◌, Option, Some, None, Result, Ok, Err, nat_lt, find, if◌then◌else◌}
+use Rattle.std.specs.Prelude.{ℕ, Bool, false, ◌&&◌, ◌||◌, ◌==◌, List, [], ◌∷◌, ◌++◌, Option, Some, None, Result, Ok, Err, nat_lt, find, if◌then◌else◌}
 use Rattle.std.specs.Str.{str_eq_ignore_ascii_case}
 use Rattle.rad_tables.specs.declared.attributes.AttrId.{AttrId}
 use Rattle.rad_tables.specs.declared.attributes.Space.{Space}
@@ -15,7 +15,7 @@ use Rattle.rad_dict.specs.declared.vendors.Vendor.{Vendor}
 use Rattle.rad_dict.specs.declared.reading.Reading.{Reading}
 use Rattle.rad_dict.specs.declared.fault.Wrong.{Wrong}
 use Rattle.rad_dict.specs.declared.fault.Wrong.TheVariants.{BadLine, UnknownVendor, Taken}
-use Rattle.rad_dict.specs.Definitions.{Definitions, attr_named, number_of}
+use Rattle.rad_dict.specs.Definitions.{attr_named, number_of}
 use Rattle.rad_dict.specs.BaseAttributes.{standard_attrs, names_of}
 use Rattle.rad_dict.specs.Lines.{Statement, nothing, attribute, value, vendor, begins, ends}
 

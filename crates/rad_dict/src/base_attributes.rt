@@ -6,7 +6,8 @@ ghost use Rattle.rad_dict.specs.BaseAttributes.{standard_attrs, internal_attrs, 
 ghost use Rattle.rad_dict.specs.Rows.{attrs_of};
 ghost use Rattle.rad_dict.specs.Readings.{is_base};
 
-use crate::{AttrDef, Dict};
+use crate::AttrDef;
+use crate::indexed_rows::IndexedRows;
 use rad_edge::{NoMemory, Octets};
 use rad_tables::{AttrId, Kind, NameRow, Names, Space, names};
 use std::alloc::Global;
@@ -133,7 +134,7 @@ pub(crate) fn is_base(def: &AttrDef) -> bool
 }
 
 /// The same with the base's attributes.
-pub(crate) fn add_base_attrs(alloc: Global, dict: Dict) -> Result<Dict, NoMemory>
+pub(crate) fn add_base_attrs(alloc: Global, dict: IndexedRows) -> Result<IndexedRows, NoMemory>
     ensures { IfOk result (λ new. new ≡ record { attrs = dict.attrs ++ base_attrs; values = dict.values }) }
 {
     let dict = add_table(alloc, dict, Space::Standard, standard())?;
@@ -143,10 +144,10 @@ pub(crate) fn add_base_attrs(alloc: Global, dict: Dict) -> Result<Dict, NoMemory
 /// The same with the attributes of a table.
 fn add_table<const N: usize>(
     alloc: Global,
-    dict: Dict,
+    dict: IndexedRows,
     space: Space,
     table: AttrTable<N>,
-) -> Result<Dict, NoMemory>
+) -> Result<IndexedRows, NoMemory>
     ensures { IfOk result (λ new. new ≡ record { attrs = dict.attrs ++ attrs_of space table.entry.names table.entry.kinds; values = dict.values }) }
 {
     let AttrTable { names, kinds } = table;
@@ -155,11 +156,11 @@ fn add_table<const N: usize>(
 
 fn add_rows(
     alloc: Global,
-    dict: Dict,
+    dict: IndexedRows,
     space: Space,
     names: &[NameRow],
     kinds: &[Kind],
-) -> Result<Dict, NoMemory>
+) -> Result<IndexedRows, NoMemory>
     requires { length names.now ≡ length kinds.now }
     ensures { IfOk result (λ new. new ≡ record { attrs = dict.attrs ++ attrs_of space (map row_of names.now) kinds.now; values = dict.values }) }
 {

@@ -6,7 +6,8 @@ ghost use Rattle.rad_tables.specs.Names.{row_of, AreInverse};
 ghost use Rattle.rad_dict.specs.BaseValues.{base_values, value_names};
 ghost use Rattle.rad_dict.specs.Rows.{values_of};
 
-use crate::{Dict, ValueDef};
+use crate::ValueDef;
+use crate::indexed_rows::IndexedRows;
 use rad_edge::{NoMemory, Octets};
 use rad_tables::{AttrId, NameRow, Names, Space, names};
 use std::alloc::Global;
@@ -163,7 +164,7 @@ fn nas_port_types() -> Names<6>
 }
 
 /// The same with the base's named values.
-pub(crate) fn add_base_values(alloc: Global, dict: Dict) -> Result<Dict, NoMemory>
+pub(crate) fn add_base_values(alloc: Global, dict: IndexedRows) -> Result<IndexedRows, NoMemory>
     ensures { IfOk result (λ new. new ≡ record { attrs = dict.attrs; values = dict.values ++ base_values }) }
 {
     let dict = add_table(alloc, dict, 6, service_types())?;
@@ -181,16 +182,21 @@ pub(crate) fn add_base_values(alloc: Global, dict: Dict) -> Result<Dict, NoMemor
 /// The same with the values of a standard attribute's table.
 fn add_table<const N: usize>(
     alloc: Global,
-    dict: Dict,
+    dict: IndexedRows,
     attr: u32,
     table: Names<N>,
-) -> Result<Dict, NoMemory>
+) -> Result<IndexedRows, NoMemory>
     ensures { IfOk result (λ new. new ≡ record { attrs = dict.attrs; values = dict.values ++ values_of attr table.entry }) }
 {
     add_rows(alloc, dict, attr, table.rows())
 }
 
-fn add_rows(alloc: Global, dict: Dict, attr: u32, rows: &[NameRow]) -> Result<Dict, NoMemory>
+fn add_rows(
+    alloc: Global,
+    dict: IndexedRows,
+    attr: u32,
+    rows: &[NameRow],
+) -> Result<IndexedRows, NoMemory>
     ensures { IfOk result (λ new. new ≡ record { attrs = dict.attrs; values = dict.values ++ values_of attr (map row_of rows.now) }) }
 {
     let mut grown = dict;

@@ -1,42 +1,34 @@
-ghost use Rattle.std.specs.Prelude.{◌≡◌, [], ◌∷◌, ◌++◌, IfOk, find};
+ghost use Rattle.std.specs.Prelude.{◌≡◌, None, IsTrue, ◌∷◌, [], ◌++◌, IfOk};
 ghost use Rattle.std.specs.Option.{option_copied};
 ghost use Rattle.rad_dict.specs.Base.{base_definitions};
-ghost use Rattle.rad_dict.specs.Definitions.{attr_named, definition_of, is_name_of, is_number_of, name_of, number_of};
+ghost use Rattle.rad_dict.specs.Definitions.{attr_named, definition_of, name_of, number_of};
+ghost use Rattle.rad_dict.specs.NameForms.{is_attr_name, is_value_name};
+ghost use Rattle.rad_dict.specs.EveryDictionary.{IsDictionary};
 
-use crate::base_attributes::add_base_attrs;
-use crate::base_values::add_base_values;
-use crate::index::Index;
-use crate::keys::{attr_key, key_with, name_key};
-use crate::search::{attr_at, attr_named_at, value_named_at, value_numbered_at};
+use crate::indexed_rows::IndexedRows;
 use crate::{AttrDef, ValueDef};
 use rad_edge::NoMemory;
 use rad_tables::AttrId;
 use std::alloc::Global;
 use std::marker::Model;
 
-/// The attributes and named values that a server knows.
+/// The attributes and named values that a server knows: those of the base, and what the files of a dictionary define
+/// beyond it. Each name is of the form that dictionary(5) allows, and stands for one attribute, or for one value of an
+/// attribute, in any case of its ASCII letters.
 #[derive(Debug, Drop)]
 pub struct Dict {
-    attrs: Vec<AttrDef>,
-    values: Vec<ValueDef>,
-    attr_names: Index,
-    attr_ids: Index,
-    value_numbers: Index,
-    value_names: Index,
+    rows: IndexedRows,
 }
 
 impl Model for Dict {
     ghost use Rattle.rad_dict.specs.Definitions.{Definitions};
-    ghost use Rattle.std.specs.Prelude.{◌≡◌, map};
-    ghost use Rattle.rad_dict.specs.Keys.{by_name, by_attr, by_value, by_value_name};
+    ghost use Rattle.rad_dict.specs.EveryDictionary.{IsDictionary};
 
     ghost Value = { Definitions };
 
-    ghost view = { λ d. record { attrs = d.attrs.items; values = d.values.items } };
+    ghost view = { λ d. d.rows };
 
-    ghost invariant = { λ d.
-        (d.attr_names ≡ map by_name d.attrs.items) × (d.attr_ids ≡ map by_attr d.attrs.items)
-        × (d.value_numbers ≡ map by_value d.values.items) × (d.value_names ≡ map by_value_name d.values.items) };
+    ghost invariant = { λ d. IsDictionary d.rows };
 }
 
 impl Dict {
@@ -45,114 +37,62 @@ impl Dict {
     pub fn base(alloc: Global) -> Result<Dict, NoMemory>
         ensures { IfOk result (λ dict. dict ≡ base_definitions) }
     {
-        let dict = add_base_attrs(alloc, Dict::empty(alloc))?;
-        add_base_values(alloc, dict)
+        Ok(Dict {
+            rows: IndexedRows::base(alloc)?,
+        })
     }
 
-    /// No attribute and no value.
-    fn empty(alloc: Global) -> Dict
-        ensures attrs { result.attrs ≡ [] }
-        ensures values { result.values ≡ [] }
-    {
-        Dict {
-            attrs: Vec::new(alloc),
-            values: Vec::new(alloc),
-            attr_names: Index::new(alloc),
-            attr_ids: Index::new(alloc),
-            value_numbers: Index::new(alloc),
-            value_names: Index::new(alloc),
-        }
-    }
-
-    /// The same with one more attribute.
+    /// The same with one more attribute, whose name stands for none.
     pub(crate) fn with_attr(self, alloc: Global, def: AttrDef) -> Result<Dict, NoMemory>
+        requires form { IsTrue (is_attr_name def.name) }
+        requires new { attr_named def.name self ≡ None }
         ensures { IfOk result (λ dict. dict ≡ record { attrs = self.attrs ++ def ∷ []; values = self.values }) }
     {
-        let Dict {
-            mut attrs,
-            values,
-            attr_names,
-            attr_ids,
-            value_numbers,
-            value_names,
-        } = self;
-        let attr_names = attr_names.with(alloc, name_key(0, def.name.as_slice()))?;
-        let attr_ids = attr_ids.with(alloc, attr_key(def.id))?;
-        attrs.push(def)?;
+        let Dict { rows } = self;
         Ok(Dict {
-            attrs,
-            values,
-            attr_names,
-            attr_ids,
-            value_numbers,
-            value_names,
+            rows: rows.with_attr(alloc, def)?,
         })
     }
 
-    /// The same with one more named value.
+    /// The same with one more named value, whose name stands for none of its attribute.
     pub(crate) fn with_value(self, alloc: Global, def: ValueDef) -> Result<Dict, NoMemory>
+        requires form { IsTrue (is_value_name def.name) }
+        requires new { number_of def.attr def.name self ≡ None }
         ensures { IfOk result (λ dict. dict ≡ record { attrs = self.attrs; values = self.values ++ def ∷ [] }) }
     {
-        let Dict {
-            attrs,
-            mut values,
-            attr_names,
-            attr_ids,
-            value_numbers,
-            value_names,
-        } = self;
-        let attr = attr_key(def.attr);
-        let value_numbers = value_numbers.with(alloc, key_with(attr, u64::from(def.number)))?;
-        let value_names = value_names.with(alloc, name_key(attr, def.name.as_slice()))?;
-        values.push(def)?;
+        let Dict { rows } = self;
         Ok(Dict {
-            attrs,
-            values,
-            attr_names,
-            attr_ids,
-            value_numbers,
-            value_names,
+            rows: rows.with_value(alloc, def)?,
         })
+    }
+
+    /// What holds of every dictionary: the base's rows come first, each name is of its form, and no name stands for
+    /// two things. It is a fact about the dictionary, and the function does nothing.
+    pub fn each_name_means_one_thing(&self)
+        ensures { IsDictionary self.now }
+    {
+        let _ = &self.rows;
     }
 
     /// The attribute of this name, in any case of its ASCII letters.
     pub fn attr(&self, name: &[u8]) -> Option<&AttrDef>
         ensures { option_copied result ≡ attr_named name.now self.now }
     {
-        let places = self.attr_names.places(name_key(0, name));
-        attr_named_at(self.attrs.as_slice(), places, name)
+        self.rows.attr(name)
     }
 
     /// The first definition of this attribute.
     pub fn attr_of(&self, id: AttrId) -> Option<&AttrDef>
         ensures { option_copied result ≡ definition_of id self.now }
     {
-        let places = self.attr_ids.places(attr_key(id));
-        attr_at(self.attrs.as_slice(), places, id)
-    }
-
-    /// The first row of this value of the attribute.
-    fn numbered(&self, id: AttrId, number: u32) -> Option<&ValueDef>
-        ensures { option_copied result ≡ find (is_number_of id number) self.now.values }
-    {
-        let key = key_with(attr_key(id), u64::from(number));
-        let places = self.value_numbers.places(key);
-        value_numbered_at(self.values.as_slice(), places, id, number)
-    }
-
-    /// The first row of the attribute's value of this name.
-    fn named(&self, id: AttrId, name: &[u8]) -> Option<&ValueDef>
-        ensures { option_copied result ≡ find (is_name_of id name.now) self.now.values }
-    {
-        let places = self.value_names.places(name_key(attr_key(id), name));
-        value_named_at(self.values.as_slice(), places, id, name)
+        self.rows.attr_of(id)
     }
 
     /// The name of this value of the attribute.
     pub fn value_name(&self, id: AttrId, number: u32) -> Option<&[u8]>
         ensures { option_copied result ≡ name_of id number self.now }
     {
-        match self.numbered(id, number) {
+        match self.rows.numbered(id, number) {
             Some(row) => Some(row.name.as_slice()),
             None => None,
         }
@@ -162,7 +102,7 @@ impl Dict {
     pub fn value_number(&self, id: AttrId, name: &[u8]) -> Option<u32>
         ensures { result ≡ number_of id name.now self.now }
     {
-        match self.named(id, name) {
+        match self.rows.named(id, name) {
             Some(row) => Some(row.number),
             None => None,
         }

@@ -1,9 +1,10 @@
 //! Dictionary files that are read, with the files that they include.
 
-ghost use Rattle.std.specs.Prelude.{◌≡◌, ◌≢◌, ◌<◌, ◌≤◌, length, OnOk};
+ghost use Rattle.std.specs.Prelude.{◌≡◌, ◌≢◌, ◌<◌, ◌≤◌, Some, length, OnOk};
 ghost use Rattle.rad_edge.specs.Telling.{Tells, Counts};
 ghost use Rattle.rad_dict.specs.Answers.{IsAnswer};
-ghost use Rattle.rad_dict.specs.Includes.{counted, ended, source_at, include_read, text_read, dict_of};
+ghost use Rattle.rad_dict.specs.Steps.{folder};
+ghost use Rattle.rad_dict.specs.Includes.{counted, ended, source_at, include_read, text_read, last_part, dict_from, dict_of};
 
 use crate::Dict;
 use crate::fault::DictFault;
@@ -131,20 +132,40 @@ impl Dict {
         // A read fault comes only where the files failed.
         ensures faults { Counts (F.faults files.old) (F.faults files.new) (result ≡ Err DictFault.ReadFault) }
     {
-        let whole = path.as_bytes();
-        let (root, file) = whole.split_at(folder_len(whole));
         match files.read(alloc, path) {
-            Found::Bytes(octets) => {
-                let reading = Reading::new(alloc)?;
-                let text = octets.as_slice();
-                let Reading { dict, .. } = text_read(
-                    alloc, files, root, DEEPEST, file, text, reading,
-                )?;
-                Ok(dict)
+            Found::Bytes(octets) => Dict::of_file(alloc, files, path, octets.as_slice()),
+            Found::Missing => {
+                let (_, file) = parts_of(path);
+                Err(DictFault::Missing(place_at(alloc, file, 0)?))
             }
-            Found::Missing => Err(DictFault::Missing(place_at(alloc, file, 0)?)),
             Found::Failed => Err(DictFault::ReadFault),
             Found::NoMemory => Err(DictFault::NoMemory),
         }
     }
+
+    /// The same of a file whose octets were read already.
+    pub fn of_file<F: Files>(
+        alloc: Global,
+        files: &mut F,
+        path: &str,
+        text: &[u8],
+    ) -> Result<Dict, DictFault>
+        ensures told { Tells (F.told files.old) (F.told files.new) (λ before now.
+            (now ≡ before) × IsAnswer (dict_from path.now before.present (Some text.now)) result) }
+        ensures faults { Counts (F.faults files.old) (F.faults files.new) (result ≡ Err DictFault.ReadFault) }
+    {
+        let (root, file) = parts_of(path);
+        let reading = Reading::new(alloc)?;
+        let Reading { dict, .. } = text_read(alloc, files, root, DEEPEST, file, text, reading)?;
+        Ok(dict)
+    }
+}
+
+/// A path's folder, with its slash, and its last part.
+fn parts_of(path: &str) -> (&[u8], &[u8])
+    ensures folder { result.0.now ≡ folder path.now }
+    ensures last { result.1.now ≡ last_part path.now }
+{
+    let whole = path.as_bytes();
+    whole.split_at(folder_len(whole))
 }

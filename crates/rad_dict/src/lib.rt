@@ -11,6 +11,7 @@ mod dictionary;
 mod fault;
 mod including;
 mod index;
+mod indexed_rows;
 mod keys;
 mod line;
 mod line_numbers;

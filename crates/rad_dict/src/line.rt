@@ -1,9 +1,9 @@
 //! The lines of a dictionary file.
 
-ghost use Rattle.std.specs.Prelude.{◌≡◌, codes};
+ghost use Rattle.std.specs.Prelude.{◌≡◌, codes, IfSome};
 ghost use Rattle.std.specs.Option.{option_map};
 ghost use Rattle.std.specs.Str.{str_eq_ignore_ascii_case};
-ghost use Rattle.rad_dict.specs.Lines.{statement_of, line_of, kind_of, attribute_at, value_at, vendor_at, only_word, keyword_line, line_at};
+ghost use Rattle.rad_dict.specs.Lines.{statement_of, line_of, IsWellNamed, IsWellNamedLine, kind_of, attribute_at, value_at, vendor_at, only_word, keyword_line, line_at};
 
 use crate::line_numbers::number_of;
 use crate::line_words::{is_ended, last_at, word_at};
@@ -64,7 +64,8 @@ fn kind_of(word: &[u8]) -> Kind
 /// `ATTRIBUTE name number kind [flags]`; with a flag the kind is octets.
 #[tactic(auto, unfolding(crate::specs::Lines::attribute_at))]
 fn attribute_at(text: &[u8]) -> Option<Statement>
-    ensures { option_map statement_of result ≡ attribute_at text.now }
+    ensures exact { option_map statement_of result ≡ attribute_at text.now }
+    ensures named { IfSome result (λ statement. IsWellNamed (statement_of statement)) }
 {
     let (name, rest) = word_at(text)?;
     let (number, rest) = word_at(rest)?;
@@ -85,7 +86,8 @@ fn attribute_at(text: &[u8]) -> Option<Statement>
 /// `VALUE attribute name number`
 #[tactic(auto, unfolding(crate::specs::Lines::value_at))]
 fn value_at(text: &[u8]) -> Option<Statement>
-    ensures { option_map statement_of result ≡ value_at text.now }
+    ensures exact { option_map statement_of result ≡ value_at text.now }
+    ensures named { IfSome result (λ statement. IsWellNamed (statement_of statement)) }
 {
     let (attr, rest) = word_at(text)?;
     let (name, rest) = word_at(rest)?;
@@ -101,7 +103,8 @@ fn value_at(text: &[u8]) -> Option<Statement>
 /// `VENDOR name number [format]`; the format is passed over.
 #[tactic(auto, unfolding(crate::specs::Lines::vendor_at))]
 fn vendor_at(text: &[u8]) -> Option<Statement>
-    ensures { option_map statement_of result ≡ vendor_at text.now }
+    ensures exact { option_map statement_of result ≡ vendor_at text.now }
+    ensures named { IfSome result (λ statement. IsWellNamed (statement_of statement)) }
 {
     let (name, rest) = word_at(text)?;
     let (number, rest) = word_at(rest)?;
@@ -122,7 +125,8 @@ fn only_word(text: &[u8]) -> Option<&[u8]>
 /// A line from behind its keyword on.
 #[tactic(auto, unfolding(crate::specs::Lines::keyword_line))]
 fn keyword_line<'a>(keyword: &[u8], text: &'a [u8]) -> Option<Line<'a>>
-    ensures { option_map line_of result ≡ keyword_line keyword.now text.now }
+    ensures exact { option_map line_of result ≡ keyword_line keyword.now text.now }
+    ensures named { IfSome result (λ line. IsWellNamedLine (line_of line)) }
 {
     if is_word(keyword, b"ATTRIBUTE") {
         Some(Line::States(attribute_at(text)?))
@@ -144,7 +148,8 @@ fn keyword_line<'a>(keyword: &[u8], text: &'a [u8]) -> Option<Line<'a>>
 /// A line of a dictionary file, by its keyword in any case; none where it is bad.
 #[tactic(auto, unfolding(crate::specs::Lines::line_at))]
 pub fn line_at(text: &[u8]) -> Option<Line>
-    ensures { option_map line_of result ≡ line_at text.now }
+    ensures exact { option_map line_of result ≡ line_at text.now }
+    ensures named { IfSome result (λ line. IsWellNamedLine (line_of line)) }
 {
     match word_at(text) {
         None => Some(Line::States(Statement::Nothing)),

@@ -1,10 +1,11 @@
 //! What is known while dictionary files are read.
 
-ghost use Rattle.std.specs.Prelude.{◌≡◌, Result, IfOk};
+ghost use Rattle.std.specs.Prelude.{◌≡◌, None, Result, IfOk, IsTrue};
 ghost use Rattle.std.specs.Option.{option_map};
 ghost use Rattle.rad_dict.specs.Answers.{Gives};
-ghost use Rattle.rad_dict.specs.Definitions.{attr_named};
-ghost use Rattle.rad_dict.specs.Lines.{statement_of};
+ghost use Rattle.rad_dict.specs.Definitions.{attr_named, number_of};
+ghost use Rattle.rad_dict.specs.NameForms.{is_attr_name, is_value_name};
+ghost use Rattle.rad_dict.specs.Lines.{statement_of, IsWellNamed};
 ghost use Rattle.rad_tables.specs.Attribute.{same_attr};
 ghost use Rattle.rad_dict.specs.Lines.{attribute, value, vendor, begins, ends};
 ghost use Rattle.rad_dict.specs.FirstReading.{first_reading};
@@ -141,6 +142,8 @@ impl Reading {
     }
 
     fn with_attr(self, alloc: Global, def: AttrDef) -> Result<Reading, NoMemory>
+        requires form { IsTrue (is_attr_name def.name) }
+        requires new { attr_named def.name self.dict ≡ None }
         ensures { IfOk result (λ reading. reading ≡ readings.with_attr def self) }
     {
         let Reading {
@@ -158,6 +161,8 @@ impl Reading {
     }
 
     fn with_value(self, alloc: Global, def: ValueDef) -> Result<Reading, NoMemory>
+        requires form { IsTrue (is_value_name def.name) }
+        requires new { number_of def.attr def.name self.dict ≡ None }
         ensures { IfOk result (λ reading. reading ≡ readings.with_value def self) }
     {
         let Reading {
@@ -194,6 +199,7 @@ impl Reading {
     /// An attribute is defined, unless its name stands.
     #[tactic(auto, unfolding(crate::specs::Readings::attr_defined))]
     fn define_attr(self, alloc: Global, def: AttrDef) -> Result<Reading, LineFault>
+        requires { IsTrue (is_attr_name def.name) }
         ensures { Gives result (readings.attr_defined def self) }
     {
         match stands(&self.dict, &def) {
@@ -206,6 +212,7 @@ impl Reading {
     /// A value is named, unless its name stands.
     #[tactic(auto, unfolding(crate::specs::Readings::value_defined))]
     fn define_value(self, alloc: Global, def: ValueDef) -> Result<Reading, LineFault>
+        requires { IsTrue (is_value_name def.name) }
         ensures { Gives result (readings.value_defined def self) }
     {
         match self.dict.value_number(def.attr, def.name.as_slice()) {
@@ -236,6 +243,7 @@ impl Reading {
         number: u32,
         kind: Kind,
     ) -> Result<Reading, LineFault>
+        requires { IsTrue (is_attr_name name.now) }
         ensures { Gives result (readings.after (attribute name.now number kind) self) }
     {
         let Some(id) = id_of(&self.present, number) else {
@@ -254,6 +262,7 @@ impl Reading {
         name: &[u8],
         number: u32,
     ) -> Result<Reading, LineFault>
+        requires { IsTrue (is_value_name name.now) }
         ensures { Gives result (readings.after (value attr.now name.now number) self) }
     {
         let Some((attr, kind)) = attr_of(&self.dict, attr) else {
@@ -303,6 +312,7 @@ impl Reading {
 
     /// What is known after a statement.
     pub fn after(self, alloc: Global, statement: Statement) -> Result<Reading, LineFault>
+        requires { IsWellNamed (statement_of statement) }
         ensures { Gives result (readings.after (statement_of statement.entry) self) }
     {
         match statement {

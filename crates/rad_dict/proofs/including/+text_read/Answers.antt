@@ -1,15 +1,15 @@
-use Rattle.std.proofs.Common.{◌≡◌, ◌∷◌, ◌+◌, ◌-◌, ◌<◌, ◌≤◌, List, ℕ, eqb, false, Result, Ok, Err, refl, sym, ap, subst, ◌∙◌, length, arith}
+use Rattle.std.proofs.Common.{◌≡◌, ◌+◌, Result, Ok, Err, refl, sym, ap, subst, ◌∙◌, length, arith}
 use Rattle.std.proofs.lemmas.Result.{err_from_is_err_and}
-use Rattle.std.proofs.lemmas.Bool.{eqb-true, eqb-false}
-use Rattle.rad_edge.specs.Files.{File, FilesTold}
+use Rattle.std.proofs.lemmas.Bool.{eqb-true}
+use Rattle.rad_edge.specs.Files.{FilesTold}
 use Rattle.rad_dict.specs.declared.fault.DictFault.{DictFault}
 use Rattle.rad_dict.specs.declared.reading.Reading.{Reading}
 use Rattle.rad_dict.specs.declared.step.Step.{Step}
 use Rattle.rad_dict.specs.Answers.{IsFault, IsAnswer}
-use Rattle.rad_dict.specs.Includes.{include_read, lines_read, source_at, text_read}
+use Rattle.rad_dict.specs.Includes.{include_read, lines_read, source_at}
 use Rattle.rad_dict.specs.TextLines.{lines_of}
 use Rattle.rad_dict.proofs.Tellings.{Tells-same, Tells-weaker, Tells-trans}
-use Rattle.rad_dict.proofs.Readings.{whole, Going, Ends, counted_fails, counted_goes, line_fails, line_goes, include_fails, include_goes, include_missed, told_then, no_lines}
+use Rattle.rad_dict.proofs.Readings.{whole, Going, Ends, counted_fails, counted_goes, line_fails, line_goes, include_fails, include_missed, told_then, no_lines}
 use Rattle.rad_dict.proofs.including.+text_read.Goals as goal
 use Rattle.rad_dict.proofs.including.+text_read.Goals.{in-Goes, in-Includes+in_ok-text-in-Includes+in_ok-reading-in-Includes}
 

@@ -1,4 +1,4 @@
-use Rattle.std.proofs.Common.{◌≡◌, ◌≢◌, List, ℕ, Some, refl, sym, ap, ◌∙◌, arith}
+use Rattle.std.proofs.Common.{◌≢◌, List, ℕ, Some, refl, sym, ap, ◌∙◌, arith}
 use Rattle.rad_edge.specs.Files.{FilesTold, octets_at}
 use Rattle.rad_dict.proofs.Tellings.{Tells-same, Tells-weaker}
 use Rattle.rad_dict.proofs.Readings.{no_source, some_source}

@@ -1,4 +1,4 @@
-use Rattle.std.proofs.Common.{◌≡◌, List, ℕ, Result, subst, ap, ◌∙◌, arith}
+use Rattle.std.proofs.Common.{List, ℕ, Result, subst, ap, ◌∙◌, arith}
 use Rattle.rad_dict.specs.declared.reading.Reading.{Reading}
 use Rattle.rad_dict.specs.declared.fault.Wrong.{Wrong}
 use Rattle.rad_dict.specs.Answers.{Gives}

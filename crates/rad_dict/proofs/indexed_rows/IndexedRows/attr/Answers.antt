@@ -7,7 +7,7 @@ use Rattle.rad_dict.specs.Search.{found_at}
 use Rattle.std.specs.Str.{str_eq_ignore_ascii_case}
 use Rattle.rad_dict.specs.Keys.{by_name, name_key}
 use Rattle.rad_dict.proofs.Indexed.{looked_up, by_name_only}
-use Rattle.rad_dict.proofs.dictionary.Dict.attr.Goals as goal
+use Rattle.rad_dict.proofs.indexed_rows.IndexedRows.attr.Goals as goal
 
 pub returns : goal.returns
 returns c =

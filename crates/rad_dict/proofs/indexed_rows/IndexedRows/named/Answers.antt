@@ -7,7 +7,7 @@ use Rattle.rad_dict.specs.Search.{found_at}
 use Rattle.rad_dict.specs.Definitions.{is_name_of}
 use Rattle.rad_dict.specs.Keys.{by_value_name, name_key, attr_key}
 use Rattle.rad_dict.proofs.Indexed.{looked_up, by_value_name_only}
-use Rattle.rad_dict.proofs.dictionary.Dict.named.Goals as goal
+use Rattle.rad_dict.proofs.indexed_rows.IndexedRows.named.Goals as goal
 
 pub returns : goal.returns
 returns c =

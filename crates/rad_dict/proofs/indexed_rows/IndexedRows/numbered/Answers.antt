@@ -7,7 +7,7 @@ use Rattle.rad_dict.specs.Search.{found_at}
 use Rattle.rad_dict.specs.Definitions.{is_number_of}
 use Rattle.rad_dict.specs.Keys.{by_value, key_with, attr_key}
 use Rattle.rad_dict.proofs.Indexed.{looked_up, by_value_only}
-use Rattle.rad_dict.proofs.dictionary.Dict.numbered.Goals as goal
+use Rattle.rad_dict.proofs.indexed_rows.IndexedRows.numbered.Goals as goal
 
 pub returns : goal.returns
 returns c =
