@@ -8,9 +8,8 @@ use Rattle.std.proofs.lemmas.List.{append-nil, length-append}
 use Rattle.rad_pairs.specs.Numerals.{begins_with_digit}
 use Rattle.rad_pairs.specs.ValueText.{dotted}
 use Rattle.rad_pairs.specs.ValueReading.{part_at, address_of}
-use Rattle.rad_pairs.specs.ReadingBack.{IsName}
 use Rattle.rad_pairs.proofs.Decimals.{number_read}
-use Rattle.rad_pairs.proofs.Names.{decimal_octets, joined}
+use Rattle.rad_pairs.proofs.Names.{IsName, decimal_octets, joined}
 
 part_again : (n : ℕ) (rest : List ℕ) → n < 256 → begins_with_digit 10 rest ≡ false → part_at (decimal n ++ rest) ≡ Some (n, rest)
 unfolding part_at

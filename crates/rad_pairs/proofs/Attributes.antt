@@ -1,45 +1,27 @@
 -- Names of attributes that are printed and read again.
-use Rattle.std.proofs.Common.{◌≡◌, ℕ, ◌^◌, ◌<◌, true, eqb, List, [], ◌∷◌, ◌++◌, length, take, Option, Some, None, refl, sym, ap, ◌∙◌, arith}
+use Rattle.std.proofs.Common.{◌≡◌, ℕ, ◌^◌, ◌<◌, true, List, [], ◌∷◌, ◌++◌, length, take, Option, Some, None, refl, sym, ap, ◌∙◌, arith}
 use Rattle.std.specs.Prelude.{codes}
 use Rattle.std.specs.Str.{str_eq_ignore_ascii_case}
 use Rattle.std.specs.Fmt.{decimal}
-use Rattle.std.proofs.lemmas.Bool.{true≢false, cond-true, and_parts, eqb-true, ltb-true, lt-ltb}
+use Rattle.std.proofs.lemmas.Bool.{true≢false, cond-true, ltb-true, lt-ltb}
 use Rattle.std.proofs.lemmas.Option.{cond_some}
 use Rattle.rad_tables.specs.declared.attributes.AttrId.{AttrId}
 use Rattle.rad_tables.specs.declared.attributes.Space.{Space}
 use Rattle.rad_tables.specs.declared.attributes.Space.TheVariants.{Standard, Vendor, Internal}
 use Rattle.rad_tables.specs.declared.attributes.Kind.{Kind}
 use Rattle.rad_tables.specs.declared.attributes.Kind.TheVariants as kind
-use Rattle.rad_tables.specs.Attribute.{same_space, same_attr}
+use Rattle.rad_tables.specs.Attribute.{same_attr}
 use Rattle.rad_dict.specs.declared.definitions.AttrDef.{AttrDef}
 use Rattle.rad_dict.specs.Definitions.{Definitions, attr_named, definition_of}
 use Rattle.rad_pairs.specs.declared.attr_reading.AttrKind.{AttrKind}
 use Rattle.rad_pairs.specs.Numerals.{digits_at, number_at}
 use Rattle.rad_pairs.specs.ValueText.{numbered_text, attr_text}
 use Rattle.rad_pairs.specs.AttrNames.{numbered, kind_or_octets, named}
-use Rattle.rad_pairs.specs.ReadingBack.{IsName, IsPlain, IsSpace, unnamed_kind, kind_of}
-use Rattle.rad_pairs.proofs.Lookups.{find_fits, find_finds, same_itself, same_begin}
+use Rattle.rad_dict.specs.EveryDictionary.{IsDictionary}
+use Rattle.rad_pairs.specs.ReadingBack.{IsSpace, unnamed_kind, kind_of}
+use Rattle.rad_dict.proofs.Lookups.{find_fits, find_finds, same_itself, same_begin, attr_id, same_attr_is}
 use Rattle.rad_pairs.proofs.Decimals.{number_read, number_alone, number_again}
-use Rattle.rad_pairs.proofs.Names.{decimal_octets, joined}
-
-same_space_is : (s t : Space) → same_space s t ≡ true → s ≡ t
-same_space_is Standard Standard e = refl
-same_space_is Standard (Vendor w) e = absurd cc
-same_space_is Standard Internal e = absurd cc
-same_space_is (Vendor v) Standard e = absurd cc
-same_space_is (Vendor v) (Vendor w) e = ap Vendor (eqb-true v w e)
-same_space_is (Vendor v) Internal e = absurd cc
-same_space_is Internal Standard e = absurd cc
-same_space_is Internal (Vendor w) e = absurd cc
-same_space_is Internal Internal e = refl
-
-abbrev attr_id : Space → ℕ → AttrId
-attr_id space number = record { space = space; number = number }
-
-pub same_attr_is : (a b : AttrId) → same_attr a b ≡ true → a ≡ b
-same_attr_is a b e =
-    let parts = and_parts (same_space a.space b.space) (eqb a.number b.number) e in
-    ap (λ (s : Space). attr_id s a.number) (same_space_is a.space b.space parts.0) ∙ ap (attr_id b.space) (eqb-true a.number b.number parts.1)
+use Rattle.rad_pairs.proofs.Names.{IsName, attr_name_is, decimal_octets, joined}
 
 abbrev pub attr_kind : AttrId → Kind → AttrKind
 attr_kind id kind = record { id = id; kind = kind }
@@ -50,25 +32,25 @@ unfolding named
 named_row [] dict row long e = absurd (omega arith)
 named_row (c ∷ name) dict row long e = rw (e, named) refl
 
-defined_read : (attr : AttrId) (dict : Definitions) (row : AttrDef) → IsPlain dict → definition_of attr dict ≡ Some row → IsName row.name × (named row.name dict ≡ Some (attr_kind attr row.kind))
+defined_read : (attr : AttrId) (dict : Definitions) (row : AttrDef) → IsDictionary dict → definition_of attr dict ≡ Some row → IsName row.name × (named row.name dict ≡ Some (attr_kind attr row.kind))
 defined_read attr dict row plain e =
     let here = find_fits (λ (r : AttrDef). same_attr r.id attr) dict.attrs row e in
     let id : row.id ≡ attr = same_attr_is row.id attr here.1 in
-    let name = (plain.attr_names row here.0).0 in
+    let name = (attr_name_is row.name (plain.attr_names row here.0)).0 in
     let other = find_finds (λ (r : AttrDef). str_eq_ignore_ascii_case r.name row.name) dict.attrs row here.0 (same_itself row.name) in
     let there = find_fits (λ (r : AttrDef). str_eq_ignore_ascii_case r.name row.name) dict.attrs other.0 other.1 in
     let one = plain.one_attr other.0 row there.0 here.0 there.1 in
-    (name, named_row row.name dict other.0 name.0 other.1 ∙ ap (λ (i : AttrId). Some (attr_kind i other.0.kind)) (one.0 ∙ id) ∙ ap (λ (k : Kind). Some (attr_kind attr k)) one.1)
+    (name, named_row row.name dict other.0 name.0 other.1 ∙ ap (λ (i : AttrId). Some (attr_kind i other.0.kind)) (ap (λ (r : AttrDef). r.id) one ∙ id) ∙ ap (λ (r : AttrDef). Some (attr_kind attr r.kind)) one)
 
 -- An attribute without a definition is read by its number.
-not_named : (name : List ℕ) (dict : Definitions) → IsPlain dict → take 5 name ≡ codes "Attr-" → (found : Option AttrDef) → attr_named name dict ≡ found → found ≡ None
+not_named : (name : List ℕ) (dict : Definitions) → IsDictionary dict → take 5 name ≡ codes "Attr-" → (found : Option AttrDef) → attr_named name dict ≡ found → found ≡ None
 not_named name dict plain begin None e = refl
 not_named name dict plain begin (Some row) e =
     let here = find_fits (λ (r : AttrDef). str_eq_ignore_ascii_case r.name name) dict.attrs row e in
     let same : str_eq_ignore_ascii_case (take 5 row.name) (codes "Attr-") ≡ true = ap (str_eq_ignore_ascii_case (take 5 row.name)) (sym begin) ∙ same_begin 5 row.name name here.1 in
-    absurd (true≢false (sym same ∙ (plain.attr_names row here.0).1))
+    absurd (true≢false (sym same ∙ (attr_name_is row.name (plain.attr_names row here.0)).1))
 
-named_number : (name : List ℕ) (dict : Definitions) (attr : AttrId) → IsPlain dict → 0 < length name → take 5 name ≡ codes "Attr-" → numbered name ≡ Some attr → definition_of attr dict ≡ None → named name dict ≡ Some (attr_kind attr kind.Octets)
+named_number : (name : List ℕ) (dict : Definitions) (attr : AttrId) → IsDictionary dict → 0 < length name → take 5 name ≡ codes "Attr-" → numbered name ≡ Some attr → definition_of attr dict ≡ None → named name dict ≡ Some (attr_kind attr kind.Octets)
 unfolding named kind_or_octets
 named_number [] dict attr plain long begin e none = absurd (omega arith)
 named_number (c ∷ name) dict attr plain long begin e none =
@@ -96,7 +78,7 @@ numbered_again (Vendor v) n k wide e =
 numbered_again Internal n k wide e = absurd cc
 
 -- The name of an attribute that has a kind is read as that attribute, of that kind.
-pub attr_again : (attr : AttrId) (dict : Definitions) (k : Kind) → IsPlain dict → IsSpace attr.space → kind_of attr dict ≡ Some k
+pub attr_again : (attr : AttrId) (dict : Definitions) (k : Kind) → IsDictionary dict → IsSpace attr.space → kind_of attr dict ≡ Some k
     → IsName (attr_text attr dict) × (named (attr_text attr dict) dict ≡ Some (attr_kind attr k))
 unfolding attr_text
 attr_again attr dict k plain wide e = go (definition_of attr dict) refl e where

@@ -8,8 +8,8 @@ use Rattle.std.proofs.lemmas.Str.{digit_value-digit_char}
 use Rattle.std.proofs.lemmas.List.Concat.{flat_map-cons}
 use Rattle.rad_pairs.specs.ValueText.{two_digits, hexadecimal}
 use Rattle.rad_pairs.specs.ValueReading.{digit_pairs, octets_of}
-use Rattle.rad_pairs.specs.ReadingBack.{IsName, AreOctets}
-use Rattle.rad_pairs.proofs.Names.{are_name_octets, hexadecimal_digit, joined}
+use Rattle.rad_pairs.specs.ReadingBack.{AreOctets}
+use Rattle.rad_pairs.proofs.Names.{IsName, are_name_octets, hexadecimal_digit, joined}
 
 digit_again : (d : ℕ) → d < 16 → is_digit (digit_char d) 16 ≡ true
 digit_again d lt = rw (digit_value-digit_char d (omega arith)) (lt-ltb d 16 lt)

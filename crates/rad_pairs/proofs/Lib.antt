@@ -2,7 +2,6 @@ pub mod DigitLemmas
 pub mod DigitPairs
 pub mod WordLemmas
 pub mod Turns
-pub mod Lookups
 pub mod Decimals
 pub mod Names
 pub mod Quoted

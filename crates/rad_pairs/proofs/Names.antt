@@ -1,22 +1,50 @@
 -- Names and bare words: all of their octets are name octets.
-use Rattle.std.proofs.Common.{◌≡◌, ℕ, suc, ◌<◌, ◌≤◌, ◌^◌, Bool, true, false, ◌&&◌, ◌||◌, eqb, List, [], ◌∷◌, ◌++◌, length, Some, None, refl, sym, ap, ◌∙◌, arith}
-use Rattle.std.specs.Prelude.{slice_index}
+use Rattle.std.proofs.Common.{◌≡◌, ℕ, suc, ◌<◌, ◌≤◌, ◌^◌, Bool, true, false, not, ◌&&◌, ◌||◌, eqb, List, [], ◌∷◌, ◌++◌, length, take, nat_lt, Some, None, IsTrue, IsFalse, refl, sym, ap, ◌∙◌, arith}
+use Rattle.std.specs.Prelude.{slice_index, codes}
 use Rattle.std.specs.Option.{is_some}
 use Rattle.std.specs.List.{list_all}
 use Rattle.std.specs.Char.{digit_value, digit_char}
 use Rattle.std.specs.Fmt.{decimal}
+use Rattle.std.specs.Str.{str_eq_ignore_ascii_case, all_ascii_digits}
 use Rattle.std.specs.Str.Parse.{AllDigits}
-use Rattle.std.proofs.lemmas.Bool.{true≢false, cond-false, le-leb, ne_eqb, and_from, and_parts, or_from, agree_below_at}
+use Rattle.std.proofs.lemmas.Bool.{true≢false, cond-false, le-leb, ne_eqb, ltb-true, and_from, and_parts, or_from, agree_below_at}
 use Rattle.std.proofs.lemmas.Bool.Decides.{nat_tests}
 use Rattle.std.proofs.lemmas.Fmt.{decimal_is_IsNumeral}
 use Rattle.std.proofs.lemmas.List.{take_at, drop_at}
 use Rattle.std.proofs.lemmas.List.Folds.{list_all-append}
-use Rattle.rad_pairs.specs.ReadingBack.{is_name_octet, IsName}
+use Rattle.rad_dict.specs.LineNumbers.{is_hexadecimal}
+use Rattle.rad_dict.specs.NameForms.{is_name_octet, is_name, is_attr_name, is_value_name}
 use Rattle.rad_pairs.specs.Operators.{long_operator, short_operator, operator_at}
 use Rattle.rad_pairs.specs.Words.{is_blank, is_separator, ends_word, after_blanks, word_len, name_len, word_at}
 
 abbrev pub are_name_octets : List ℕ → Bool
 are_name_octets octets = list_all is_name_octet octets
+
+-- A name has one such octet or more, and no other.
+abbrev pub IsName : List ℕ → Type 0
+IsName name = (0 < length name) × IsTrue (are_name_octets name)
+
+name_is : (name : List ℕ) → is_name name ≡ true → IsName name
+unfolding is_name
+name_is name e = let parts = and_parts (nat_lt 0 (length name)) (are_name_octets name) e in (ltb-true 0 (length name) parts.0, parts.1)
+
+not_true : (b : Bool) → not b ≡ true → b ≡ false
+not_true true e = absurd (true≢false (sym e))
+not_true false e = refl
+
+-- The name of an attribute is a name that doesn't begin with `Attr-`; that of a value is one that isn't all digits.
+pub attr_name_is : (name : List ℕ) → is_attr_name name ≡ true → IsName name × IsFalse (str_eq_ignore_ascii_case (take 5 name) (codes "Attr-"))
+unfolding is_attr_name
+attr_name_is name e =
+    let parts = and_parts (is_name name) (not (str_eq_ignore_ascii_case (take 5 name) (codes "Attr-"))) e in
+    (name_is name parts.0, not_true (str_eq_ignore_ascii_case (take 5 name) (codes "Attr-")) parts.1)
+
+pub value_name_is : (name : List ℕ) → is_value_name name ≡ true → IsName name × IsFalse (all_ascii_digits name)
+unfolding is_value_name
+value_name_is name e =
+    let form = is_name name && not (all_ascii_digits name) in
+    let parts = and_parts (is_name name) (not (all_ascii_digits name)) (and_parts form (not (is_hexadecimal name)) e).0 in
+    (name_is name parts.0, not_true (all_ascii_digits name) parts.1)
 
 -- An octet of a name is no other sign.
 is_not : (c sign : ℕ) → is_name_octet c ≡ true → is_name_octet sign ≡ false → eqb c sign ≡ false

@@ -18,8 +18,10 @@ use Rattle.rad_pairs.specs.Operators.{long_operator, short_operator, operator_at
 use Rattle.rad_pairs.specs.Words.{after_blanks, word_len}
 use Rattle.rad_pairs.specs.PairParts.{separated, operator_of, value_at}
 use Rattle.rad_pairs.specs.Items.{pair_at, part_at, pairs_in, placed, items_of}
-use Rattle.rad_pairs.specs.ReadingBack.{AreOctets, IsName, IsPlain, IsOfKind, AreOfKind, InRange, kind_of_value, item_of, lines_text}
-use Rattle.rad_pairs.proofs.Names.{name_len_is, word_is, no_blanks, no_separator}
+use Rattle.rad_dict.specs.EveryDictionary.{IsDictionary}
+use Rattle.rad_value.specs.Kinds.{kind_of_value}
+use Rattle.rad_pairs.specs.ReadingBack.{AreOctets, IsOfKind, AreOfKind, InRange, item_of, lines_text}
+use Rattle.rad_pairs.proofs.Names.{IsName, name_len_is, word_is, no_blanks, no_separator}
 use Rattle.rad_pairs.proofs.Quoted.{quoted_read}
 use Rattle.rad_pairs.proofs.Attributes.{attr_kind, attr_again}
 use Rattle.rad_pairs.proofs.Values.{IsNoText, value_again}
@@ -54,12 +56,12 @@ quoted_alone : (attr : AttrId) (text tail rest : List ℕ) (dict : Definitions) 
 unfolding quoted value_at after_blanks
 quoted_alone attr text tail rest dict ends all = record { begins = refl; reads = rw (quoted_read text tail all, ends.parts) refl }
 
-printed_alone : (attr : AttrId) (v : Value) (tail rest : List ℕ) (dict : Definitions) → Ends tail rest → IsPlain dict → InRange v → IsNoText v → Alone (attr_kind attr (kind_of_value v)) v (value_text attr v dict) tail rest dict
+printed_alone : (attr : AttrId) (v : Value) (tail rest : List ℕ) (dict : Definitions) → Ends tail rest → IsDictionary dict → InRange v → IsNoText v → Alone (attr_kind attr (kind_of_value v)) v (value_text attr v dict) tail rest dict
 printed_alone attr v tail rest dict ends plain range none =
     let read = value_again attr v dict plain range none in
     name_alone (attr_kind attr (kind_of_value v)) v (value_text attr v dict) tail rest dict ends read.0 read.1
 
-value_alone : (attr : AttrId) (v : Value) (tail rest : List ℕ) (dict : Definitions) → Ends tail rest → IsPlain dict → InRange v → Alone (attr_kind attr (kind_of_value v)) v (value_text attr v dict) tail rest dict
+value_alone : (attr : AttrId) (v : Value) (tail rest : List ℕ) (dict : Definitions) → Ends tail rest → IsDictionary dict → InRange v → Alone (attr_kind attr (kind_of_value v)) v (value_text attr v dict) tail rest dict
 value_alone attr (value.Text text) tail rest dict ends plain range = quoted_alone attr text tail rest dict ends range
 value_alone attr (value.Octets octets) tail rest dict ends plain range = printed_alone attr (value.Octets octets) tail rest dict ends plain range tt
 value_alone attr (value.Addr address) tail rest dict ends plain range = printed_alone attr (value.Addr address) tail rest dict ends plain range tt
@@ -99,7 +101,7 @@ part_read (c ∷ name) attr v text tail rest dict is e alone =
     rw (no_blanks (c ∷ name) (32 ∷ 61 ∷ 32 ∷ (text ++ tail)) is, no_line, pair_read (c ∷ name) attr v text tail rest dict is e alone) refl
 
 -- A pair in print is a part of a text, whatever ends it.
-printed_read : (pair : Pair) (tail rest : List ℕ) (dict : Definitions) → Ends tail rest → IsPlain dict → IsOfKind pair dict → part_at (pair_text pair dict ++ tail) dict ≡ Ok (Some (item_of pair), rest)
+printed_read : (pair : Pair) (tail rest : List ℕ) (dict : Definitions) → Ends tail rest → IsDictionary dict → IsOfKind pair dict → part_at (pair_text pair dict ++ tail) dict ≡ Ok (Some (item_of pair), rest)
 printed_read pair tail rest dict ends plain fits =
     let kind = kind_of_value pair.value in
     let name = attr_again pair.attr dict kind plain fits.space fits.kind in
@@ -121,25 +123,25 @@ none_left : (turns : ℕ) (dict : Definitions) → pairs_in turns [] dict ≡ Ok
 unfolding pairs_in
 none_left turns dict = refl
 
-line_read : (turns : ℕ) (pair : Pair) (more : List ℕ) (items : List Item) (dict : Definitions) → IsPlain dict → IsOfKind pair dict → length (pair_text pair dict ++ 10 ∷ more) ≤ turns
+line_read : (turns : ℕ) (pair : Pair) (more : List ℕ) (items : List Item) (dict : Definitions) → IsDictionary dict → IsOfKind pair dict → length (pair_text pair dict ++ 10 ∷ more) ≤ turns
     → ((left : ℕ) → length more ≤ left → pairs_in left more dict ≡ Ok items) → pairs_in turns (pair_text pair dict ++ 10 ∷ more) dict ≡ Ok (item_of pair ∷ items)
 line_read zero pair more items dict plain fits enough later = absurd (omega (arith, length-append (pair_text pair dict) (10 ∷ more)))
 line_read (suc turns) pair more items dict plain fits enough later =
     first_read turns (pair_text pair dict ++ 10 ∷ more) (item_of pair) more items dict (omega (arith, length-append (pair_text pair dict) (10 ∷ more)))
     (printed_read pair (10 ∷ more) more dict (line_ends more) plain fits) (later turns (omega (arith, length-append (pair_text pair dict) (10 ∷ more))))
 
-lines_read : (pairs : List Pair) (dict : Definitions) → IsPlain dict → AreOfKind pairs dict → (turns : ℕ) → length (lines_text pairs dict) ≤ turns → pairs_in turns (lines_text pairs dict) dict ≡ Ok (map item_of pairs)
+lines_read : (pairs : List Pair) (dict : Definitions) → IsDictionary dict → AreOfKind pairs dict → (turns : ℕ) → length (lines_text pairs dict) ≤ turns → pairs_in turns (lines_text pairs dict) dict ≡ Ok (map item_of pairs)
 lines_read [] dict plain fits turns enough = none_left turns dict
 lines_read (pair ∷ pairs) dict plain fits turns enough =
     let text : lines_text (pair ∷ pairs) dict ≡ pair_text pair dict ++ 10 ∷ lines_text pairs dict = append_assoc (pair_text pair dict) (10 ∷ []) (lines_text pairs dict) in
     ap (λ (t : List ℕ). pairs_in turns t dict) text
     ∙ line_read turns pair (lines_text pairs dict) (map item_of pairs) dict plain fits.0 (omega (arith, ap length text)) (λ left more. lines_read pairs dict plain fits.1 left more)
 
-pub lines_back : (pairs : List Pair) (dict : Definitions) → IsPlain dict → AreOfKind pairs dict → items_of (lines_text pairs dict) dict ≡ Ok (map item_of pairs)
+pub lines_back : (pairs : List Pair) (dict : Definitions) → IsDictionary dict → AreOfKind pairs dict → items_of (lines_text pairs dict) dict ≡ Ok (map item_of pairs)
 unfolding items_of
 lines_back pairs dict plain fits = rw (lines_read pairs dict plain fits (length (lines_text pairs dict)) (omega arith)) refl
 
-pub read_back : (pair : Pair) (dict : Definitions) → IsPlain dict → IsOfKind pair dict → items_of (pair_text pair dict) dict ≡ Ok (item_of pair ∷ [])
+pub read_back : (pair : Pair) (dict : Definitions) → IsDictionary dict → IsOfKind pair dict → items_of (pair_text pair dict) dict ≡ Ok (item_of pair ∷ [])
 unfolding items_of
 read_back pair dict plain fits =
     let part : part_at (pair_text pair dict) dict ≡ Ok (Some (item_of pair), []) = ap (λ (t : List ℕ). part_at t dict) (sym (append-nil (pair_text pair dict))) ∙ printed_read pair [] [] dict text_ends plain fits in

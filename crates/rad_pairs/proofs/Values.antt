@@ -19,11 +19,12 @@ use Rattle.rad_dict.specs.Definitions.{Definitions, is_name_of, is_number_of, na
 use Rattle.rad_pairs.specs.Numerals.{◌>>=◌, numeral_of}
 use Rattle.rad_pairs.specs.ValueText.{number_text, value_text}
 use Rattle.rad_pairs.specs.ValueReading.{number_in, byte_of, short_of, value_of}
-use Rattle.rad_pairs.specs.ReadingBack.{IsName, IsPlain, InRange, kind_of_value}
-use Rattle.rad_pairs.proofs.Lookups.{find_fits, find_finds, same_itself, same_lower}
+use Rattle.rad_dict.specs.EveryDictionary.{IsDictionary}
+use Rattle.rad_value.specs.Kinds.{kind_of_value}
+use Rattle.rad_pairs.specs.ReadingBack.{InRange}
+use Rattle.rad_dict.proofs.Lookups.{find_fits, find_finds, same_itself, same_lower, same_attr_is}
 use Rattle.rad_pairs.proofs.Decimals.{number_again}
-use Rattle.rad_pairs.proofs.Names.{digit_range, decimal_name, no_hexadecimal}
-use Rattle.rad_pairs.proofs.Attributes.{same_attr_is}
+use Rattle.rad_pairs.proofs.Names.{IsName, value_name_is, digit_range, decimal_name, no_hexadecimal}
 use Rattle.rad_pairs.proofs.Hexadecimals.{octets_again, hexadecimal_name}
 use Rattle.rad_pairs.proofs.Addresses.{address_again, address_name}
 
@@ -46,7 +47,7 @@ row_named : (name : List ℕ) (found : Option ValueDef) → option_map (λ (r : 
 row_named name None e = absurd cc
 row_named name (Some row) e = (row, refl, cc)
 
-name_again : (attr : AttrId) (n : ℕ) (name : List ℕ) (dict : Definitions) → IsPlain dict → name_of attr n dict ≡ Some name → IsName name × (number_of attr name dict ≡ Some n)
+name_again : (attr : AttrId) (n : ℕ) (name : List ℕ) (dict : Definitions) → IsDictionary dict → name_of attr n dict ≡ Some name → IsName name × (number_of attr name dict ≡ Some n)
 name_again attr n name dict plain e =
     let row = row_named name (find (is_number_of attr n) dict.values) e in
     let here = find_fits (is_number_of attr n) dict.values row.0 row.1 in
@@ -54,18 +55,18 @@ name_again attr n name dict plain e =
     let other = find_finds (is_name_of attr row.0.name) dict.values row.0 here.0 (and_from _ _ fits.0 (same_itself row.0.name)) in
     let there = find_fits (is_name_of attr row.0.name) dict.values other.0 other.1 in
     let parts = and_parts (same_attr other.0.attr attr) (str_eq_ignore_ascii_case other.0.name row.0.name) there.1 in
-    let number : other.0.number ≡ n = plain.one_value other.0 row.0 there.0 here.0 (same_attr_is other.0.attr attr parts.0 ∙ sym (same_attr_is row.0.attr attr fits.0)) parts.1 ∙ eqb-true row.0.number n fits.1 in
+    let number : other.0.number ≡ n = ap (λ (r : ValueDef). r.number) (plain.one_value other.0 row.0 there.0 here.0 (same_attr_is other.0.attr attr parts.0 ∙ sym (same_attr_is row.0.attr attr fits.0)) parts.1) ∙ eqb-true row.0.number n fits.1 in
     subst (λ (w : List ℕ). IsName w × (number_of attr w dict ≡ Some n)) row.2
-    ((plain.value_names row.0 here.0).0, ap (option_map (λ (r : ValueDef). r.number)) other.1 ∙ ap Some number)
+    ((value_name_is row.0.name (plain.value_names row.0 here.0)).0, ap (option_map (λ (r : ValueDef). r.number)) other.1 ∙ ap Some number)
 
 -- Digits are no value's name.
-digits_unnamed : (attr : AttrId) (n : ℕ) (dict : Definitions) → IsPlain dict → n < 2 ^ 32 → (found : Option ValueDef) → find (is_name_of attr (decimal n)) dict.values ≡ found → found ≡ None
+digits_unnamed : (attr : AttrId) (n : ℕ) (dict : Definitions) → IsDictionary dict → n < 2 ^ 32 → (found : Option ValueDef) → find (is_name_of attr (decimal n)) dict.values ≡ found → found ≡ None
 digits_unnamed attr n dict plain lt None e = refl
 digits_unnamed attr n dict plain lt (Some row) e =
     let here = find_fits (is_name_of attr (decimal n)) dict.values row e in
     let same = (and_parts (same_attr row.attr attr) (str_eq_ignore_ascii_case row.name (decimal n)) here.1).1 in
     let digits = all_digits row.name (decimal n) (decimal_is_IsNumeral n (omega arith)).0.1 (same_lower row.name (decimal n) same) in
-    absurd (true≢false (sym digits ∙ (plain.value_names row here.0).1))
+    absurd (true≢false (sym digits ∙ (value_name_is row.name (plain.value_names row here.0)).1))
 
 numeral_again : (n : ℕ) → n < 2 ^ 32 → numeral_of (decimal n) ≡ Some n
 unfolding numeral_of
@@ -73,7 +74,7 @@ numeral_again n lt =
     let none : eqb (slice_index (decimal n) 1) 120 ≡ false = no_hexadecimal (decimal n) (decimal_is_IsNumeral n (omega arith)).0.1 in
     cond-false _ _ _ (and_right (eqb (slice_index (decimal n) 0) 48) (eqb (slice_index (decimal n) 1) 120) none) ∙ number_again n lt
 
-decimal_again : (attr : AttrId) (n : ℕ) (dict : Definitions) → IsPlain dict → n < 2 ^ 32 → number_in attr (decimal n) dict ≡ Some n
+decimal_again : (attr : AttrId) (n : ℕ) (dict : Definitions) → IsDictionary dict → n < 2 ^ 32 → number_in attr (decimal n) dict ≡ Some n
 unfolding number_in
 decimal_again attr n dict plain lt = rw (digits_unnamed attr n dict plain lt (find (is_name_of attr (decimal n)) dict.values) refl, number_in) (numeral_again n lt)
 
@@ -82,7 +83,7 @@ unfolding number_in
 number_named attr n name dict e = rw (e, number_in) refl
 
 -- A number in its text.
-pub number_back : (attr : AttrId) (n : ℕ) (dict : Definitions) → IsPlain dict → n < 2 ^ 32 → IsName (number_text attr n dict) × (number_in attr (number_text attr n dict) dict ≡ Some n)
+pub number_back : (attr : AttrId) (n : ℕ) (dict : Definitions) → IsDictionary dict → n < 2 ^ 32 → IsName (number_text attr n dict) × (number_in attr (number_text attr n dict) dict ≡ Some n)
 unfolding number_text
 number_back attr n dict plain lt = go (name_of attr n dict) refl where
   go : (found : Option (List ℕ)) → name_of attr n dict ≡ found
@@ -107,7 +108,7 @@ IsNoText (value.Byte number) = Unit {0}
 IsNoText (value.Short number) = Unit {0}
 
 -- The text of a value, but of a text, is read as that value.
-pub value_again : (attr : AttrId) (v : Value) (dict : Definitions) → IsPlain dict → InRange v → IsNoText v → IsName (value_text attr v dict) × (value_of (kind_of_value v) attr (value_text attr v dict) dict ≡ Some v)
+pub value_again : (attr : AttrId) (v : Value) (dict : Definitions) → IsDictionary dict → InRange v → IsNoText v → IsName (value_text attr v dict) × (value_of (kind_of_value v) attr (value_text attr v dict) dict ≡ Some v)
 value_again attr (value.Text text) dict plain range none = absurd none
 value_again attr (value.Octets octets) dict plain range none = (hexadecimal_name octets range, ap (λ (o : List ℕ). Some (value.Octets o)) (octets_again octets range))
 value_again attr (value.Addr address) dict plain range none = (address_name address range, ap (option_map value.Addr) (address_again address range))

@@ -35,7 +35,8 @@ digit_pairs (c ∷ d ∷ rest) =
 unfoldable pub octets_of : List ℕ → List ℕ
 octets_of text = elim (if is_hexadecimal text then digit_pairs (drop 2 text) else None) [ Some octets ↦ octets | None ↦ text ]
 
--- A part of an address: one to three digits that write 255 at most, and what follows them.
+-- A part of an address: one to three digits that write 255 at most, and what follows them. Leading zeros are read as
+-- decimal, too.
 unfoldable pub part_at : List ℕ → Option (ℕ × List ℕ)
 part_at text = do
   part ← number_at 10 text

@@ -1,9 +1,11 @@
 //! Texts that are printed.
 
-ghost use Rattle.std.specs.Prelude.{◌≡◌, ◌<◌, ◌++◌, IfOk, OnOk};
+ghost use Rattle.std.specs.Prelude.{◌≡◌, ◌<◌, [], ◌∷◌, ◌++◌, Ok, IfOk, OnOk};
 ghost use Rattle.std.specs.Fmt.{decimal};
 ghost use Rattle.std.specs.Char.{digit_char};
 ghost use Rattle.rad_pairs.specs.ValueText.{escaped, quoted, two_digits, hexadecimal, dotted, number_text, value_text, numbered_text, attr_text, pair_text};
+ghost use Rattle.rad_pairs.specs.Items.{items_of};
+ghost use Rattle.rad_pairs.specs.ReadingBack.{AreOctets, InRange, IsSpace, HasItsKind, item_of};
 
 use rad_dict::Dict;
 use rad_edge::{NoMemory, Octets};
@@ -21,7 +23,8 @@ fn put_decimal(alloc: Global, text: &mut Vec<u8>, number: u32) -> Result<(), NoM
 
 /// An octet in double quotes.
 fn put_escaped(text: &mut Vec<u8>, octet: u8) -> Result<(), NoMemory>
-    ensures { OnOk result (text.new.items ≡ text.old.items ++ escaped octet) }
+    ensures text { OnOk result (text.new.items ≡ text.old.items ++ escaped octet) }
+    ensures range { octet < 256 }
 {
     match octet {
         b'"' | b'\\' => text.extend_from_slice(&[b'\\', octet])?,
@@ -38,7 +41,8 @@ fn put_escaped(text: &mut Vec<u8>, octet: u8) -> Result<(), NoMemory>
 
 #[tactic(auto, unfolding(crate::specs::ValueText::quoted))]
 fn put_quoted(text: &mut Vec<u8>, octets: &[u8]) -> Result<(), NoMemory>
-    ensures { OnOk result (text.new.items ≡ text.old.items ++ quoted octets.now) }
+    ensures text { OnOk result (text.new.items ≡ text.old.items ++ quoted octets.now) }
+    ensures range { OnOk result (AreOctets octets.now) }
 {
     text.push(b'"')?;
     for octet in octets {
@@ -62,7 +66,8 @@ fn digit_char(number: u8) -> u8
 
 #[tactic(auto, unfolding(crate::specs::ValueText::hexadecimal))]
 fn put_hexadecimal(text: &mut Vec<u8>, octets: &[u8]) -> Result<(), NoMemory>
-    ensures { OnOk result (text.new.items ≡ text.old.items ++ hexadecimal octets.now) }
+    ensures text { OnOk result (text.new.items ≡ text.old.items ++ hexadecimal octets.now) }
+    ensures range { OnOk result (AreOctets octets.now) }
 {
     text.extend_from_slice(b"0x")?;
     for octet in octets {
@@ -108,7 +113,8 @@ fn put_value(
     value: &Value,
     dict: &Dict,
 ) -> Result<(), NoMemory>
-    ensures { OnOk result (text.new.items ≡ text.old.items ++ value_text attr value.now dict.now) }
+    ensures text { OnOk result (text.new.items ≡ text.old.items ++ value_text attr value.now dict.now) }
+    ensures range { OnOk result (InRange value.now) }
 {
     match value {
         Value::Text(octets) => put_quoted(text, octets.as_slice()),
@@ -136,7 +142,8 @@ fn put_numbered(alloc: Global, text: &mut Vec<u8>, attr: AttrId) -> Result<(), N
 
 #[tactic(auto, unfolding(crate::specs::ValueText::attr_text))]
 fn put_attr(alloc: Global, text: &mut Vec<u8>, attr: AttrId, dict: &Dict) -> Result<(), NoMemory>
-    ensures { OnOk result (text.new.items ≡ text.old.items ++ attr_text attr dict.now) }
+    ensures text { OnOk result (text.new.items ≡ text.old.items ++ attr_text attr dict.now) }
+    ensures range { IsSpace attr.space }
 {
     match dict.attr_of(attr) {
         Some(row) => text.extend_from_slice(row.name.as_slice())?,
@@ -161,10 +168,13 @@ pub fn print_value(
 }
 
 /// `NAME = VALUE`, as radclient(1) prints it. An attribute without a definition is `Attr-N`, or `Attr-26.V.N` for
-/// number N of vendor V.
+/// number N of vendor V. The text reads back as the pair, with the operator `=`, wherever the value is of its
+/// attribute's kind.
 pub fn print_pair(alloc: Global, pair: &Pair, dict: &Dict) -> Result<Octets, NoMemory>
-    ensures { IfOk result (λ text. text ≡ pair_text pair.now dict.now) }
+    ensures text { IfOk result (λ text. text ≡ pair_text pair.now dict.now) }
+    ensures read_back { IfOk result (λ text. HasItsKind pair.now dict.now → items_of text dict.now ≡ Ok (item_of pair.now ∷ [])) }
 {
+    dict.each_name_means_one_thing();
     let mut text = Vec::new(alloc);
     put_attr(alloc, &mut text, pair.attr, dict)?;
     text.extend_from_slice(b" = ")?;

@@ -69,9 +69,10 @@ fn next_part_at(text: &[u8]) -> Option<(u8, &[u8])>
     }
 }
 
-/// The address of a whole text `a.b.c.d`, as a number.
+/// The address of a whole text `a.b.c.d`, in network order as a number: four decimal parts of one to three digits, each
+/// 255 at most, after RFC 1123 section 2.1. None where the text is no address.
 #[tactic(auto, unfolding(crate::specs::ValueReading::address_of))]
-fn address_of(text: &[u8]) -> Option<u32>
+pub fn address_of(text: &[u8]) -> Option<u32>
     ensures { result ≡ address_of text.now }
 {
     let (a, rest) = part_at(text)?;

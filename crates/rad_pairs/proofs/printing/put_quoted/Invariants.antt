@@ -1,7 +1,11 @@
-use Rattle.std.proofs.Common.{◌≡◌, ◌++◌, ◌∷◌, [], take}
+use Rattle.std.proofs.Common.{◌≡◌, ◌++◌, ◌∷◌, [], take, drop}
 use Rattle.std.specs.List.{flat_map}
 use Rattle.rad_pairs.specs.ValueText.{escaped}
+use Rattle.rad_pairs.specs.ReadingBack.{AreOctets}
 use Rattle.rad_pairs.proofs.printing.put_quoted.Given as goal
 
 abbrev pub invariant-loop-octet : goal.invariant-loop-octet
-invariant-loop-octet l = l.text.items ≡ (l.fn.text.items ++ 34 ∷ []) ++ flat_map escaped (take l.octet-index l.octets)
+invariant-loop-octet l = record {
+  text : l.text.items ≡ (l.fn.text.items ++ 34 ∷ []) ++ flat_map escaped (take l.octet-index l.octets);
+  range : AreOctets (drop l.octet-index l.octets) → AreOctets l.octets;
+}
