@@ -20,7 +20,8 @@ use Rattle.rad_wire.specs.Packet.{Attribute, AreAttributes, IsWellFormed, attrib
 use Rattle.rad_wire.specs.Pairs.{attribute_pairs, kind_of, of_vendor, pair_of, pairs_of, standard, vendor_of, vendor_pairs, vendor_parts}
 use Rattle.rad_wire.specs.Reply.{attributes_for, fitting, is_left_out, proxy_state_attributes, reply_attributes, reply_octets, room_beside, sent_attributes}
 use Rattle.rad_wire.specs.Values.{octets_of, value_of}
-use Rattle.rad_wire.specs.Carried.{FitBeside, HasNoParts, IsCarried, IsInRange, IsUncut, proxy_state_pairs, variant_of}
+use Rattle.rad_wire.specs.Carried.{FitBeside, HasNoParts, IsCarried, IsInRange, IsUncut, proxy_state_pairs}
+use Rattle.rad_value.specs.Kinds.{kind_of_value}
 use Rattle.rad_wire.proofs.AttributeLists.{packet_reading}
 use Rattle.rad_wire.proofs.AttributePairs.{attribute, of_others, of_vendors}
 use Rattle.rad_wire.proofs.Fitting.{fitting-fit, taken}
@@ -30,7 +31,7 @@ use Rattle.rad_wire.proofs.VendorParts.{parts_read}
 -- ---- values
 
 -- the octets of a value are that value by its kind
-value_again : (value : Value) → IsInRange value → value_of (variant_of value) (octets_of value) ≡ value
+value_again : (value : Value) → IsInRange value → value_of (kind_of_value value) (octets_of value) ≡ value
 value_again (values.Text text) h = refl
 value_again (values.Octets octets) h = refl
 value_again (values.Addr address) h = ap values.Addr (from_be_bytes-to_be_bytes_4 address h)
@@ -40,7 +41,7 @@ value_again (values.Byte number) h = refl
 value_again (values.Short number) h = ap values.Short (from_be_bytes-to_be_bytes_2 number h)
 
 -- an attribute with these octets is the pair that it was
-pair_again : (attr : AttrId) (value : Value) (octets : List ℕ) (dict : Definitions) → IsInRange value → variant_of value ≡ kind_of attr dict
+pair_again : (attr : AttrId) (value : Value) (octets : List ℕ) (dict : Definitions) → IsInRange value → kind_of_value value ≡ kind_of attr dict
     → octets ≡ octets_of value → pair_of attr octets dict ≡ record { attr = attr; value = value }
 pair_again attr value octets dict range kind same =
     let made : Value → Pair = λ v. record { attr = attr; value = v } in

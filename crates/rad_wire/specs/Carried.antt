@@ -1,28 +1,17 @@
 -- Which pairs come back from a reply as they were: RFC 2865 sections 5 and 5.26.
 use Rattle.std.specs.Prelude.{ℕ, ◌≡◌, ◌≢◌, ◌<◌, ◌≤◌, ◌^◌, List, [], length, map}
 use Rattle.std.specs.List.{flat_map}
-use Rattle.rad_tables.specs.declared.attributes.Kind.{Kind}
-use Rattle.rad_tables.specs.declared.attributes.Kind.TheVariants as kinds
 use Rattle.rad_tables.specs.declared.attributes.Space.{Space}
 use Rattle.rad_tables.specs.declared.attributes.Space.TheVariants.{Standard, Vendor, Internal}
 use Rattle.rad_value.specs.declared.values.Pair.{Pair}
 use Rattle.rad_value.specs.declared.values.Value.{Value}
 use Rattle.rad_value.specs.declared.values.Value.TheVariants as values
+use Rattle.rad_value.specs.Kinds.{kind_of_value}
 use Rattle.rad_dict.specs.Definitions.{Definitions}
 use Rattle.rad_wire.specs.Packet.{Attribute, spelled}
 use Rattle.rad_wire.specs.Pairs.{kind_of, pair_of, standard, vendor_parts}
 use Rattle.rad_wire.specs.Reply.{attributes_for, proxy_state_attributes, room_beside}
 use Rattle.rad_wire.specs.Values.{octets_of}
-
--- The kind that a value is of.
-abbrev pub variant_of : Value → Kind
-variant_of (values.Text text) = kinds.Text
-variant_of (values.Octets octets) = kinds.Octets
-variant_of (values.Addr address) = kinds.Addr
-variant_of (values.Number number) = kinds.Number
-variant_of (values.Date seconds) = kinds.Date
-variant_of (values.Byte number) = kinds.Byte
-variant_of (values.Short number) = kinds.Short
 
 -- A value's number fits the octets of its kind.
 abbrev pub IsInRange : Value → Type 0
@@ -49,7 +38,7 @@ HasNoParts _ = ⊥
 -- attribute's kind, in range and uncut, and one of the standard attribute 26 isn't read as parts.
 pub record IsCarried (dict : Definitions) (pair : Pair) : Type 0 where
   pub sent : attributes_for pair ≢ []
-  pub kind : variant_of pair.value ≡ kind_of pair.attr dict
+  pub kind : kind_of_value pair.value ≡ kind_of pair.attr dict
   pub range : IsInRange pair.value
   pub uncut : IsUncut pair.attr.space (length (octets_of pair.value))
   pub plain : pair.attr ≡ standard 26 → HasNoParts pair.value
