@@ -3,6 +3,7 @@ pub mod Walks
 pub mod Trials
 pub mod PlacesLemmas
 pub mod EntriesLemmas
+pub mod KnownPasswords
 pub mod NoLineEnds
 pub mod WrittenItems
 pub mod WrittenLines

@@ -10,7 +10,10 @@ use Rattle.rad_value.specs.declared.values.Value.TheVariants as value
 use Rattle.rad_value.specs.declared.values.Pair.{Pair}
 use Rattle.rad_dict.specs.Definitions.{Definitions}
 use Rattle.rad_pairs.specs.ValueText.{escaped, quoted, attr_text, value_text, pair_text}
-use Rattle.rad_pairs.specs.ReadingBack.{is_name_octet, IsPlain, IsOfKind, InRange, kind_of_value}
+use Rattle.rad_dict.specs.NameForms.{is_name_octet}
+use Rattle.rad_dict.specs.EveryDictionary.{IsDictionary}
+use Rattle.rad_value.specs.Kinds.{kind_of_value}
+use Rattle.rad_pairs.specs.ReadingBack.{IsOfKind, InRange}
 use Rattle.rad_pairs.proofs.Attributes.{attr_again}
 use Rattle.rad_pairs.proofs.Values.{IsNoText, value_again}
 use Rattle.mod_files.specs.Lines.{is_line_end, lines_of}
@@ -61,10 +64,10 @@ pub none_quoted : (text : List ℕ) → has_line_end (quoted text) ≡ false
 unfolding quoted
 none_quoted text = none_joined (flat_map escaped text) (34 ∷ []) (none_in_octets text) refl
 
-none_in_bare : (attr : AttrId) (v : Value) (dict : Definitions) → IsPlain dict → InRange v → IsNoText v → has_line_end (value_text attr v dict) ≡ false
+none_in_bare : (attr : AttrId) (v : Value) (dict : Definitions) → IsDictionary dict → InRange v → IsNoText v → has_line_end (value_text attr v dict) ≡ false
 none_in_bare attr v dict plain range bare = none_in_name (value_text attr v dict) (value_again attr v dict plain range bare).0.1
 
-none_in_value : (attr : AttrId) (v : Value) (dict : Definitions) → IsPlain dict → InRange v → has_line_end (value_text attr v dict) ≡ false
+none_in_value : (attr : AttrId) (v : Value) (dict : Definitions) → IsDictionary dict → InRange v → has_line_end (value_text attr v dict) ≡ false
 none_in_value attr (value.Text text) dict plain range = none_quoted text
 none_in_value attr (value.Octets octets) dict plain range = none_in_bare attr (value.Octets octets) dict plain range tt
 none_in_value attr (value.Addr address) dict plain range = none_in_bare attr (value.Addr address) dict plain range tt
@@ -73,7 +76,7 @@ none_in_value attr (value.Date seconds) dict plain range = none_in_bare attr (va
 none_in_value attr (value.Byte number) dict plain range = none_in_bare attr (value.Byte number) dict plain range tt
 none_in_value attr (value.Short number) dict plain range = none_in_bare attr (value.Short number) dict plain range tt
 
-pub none_in_pair : (pair : Pair) (dict : Definitions) → IsPlain dict → IsOfKind pair dict → has_line_end (pair_text pair dict) ≡ false
+pub none_in_pair : (pair : Pair) (dict : Definitions) → IsDictionary dict → IsOfKind pair dict → has_line_end (pair_text pair dict) ≡ false
 none_in_pair pair dict plain fits =
     let name = attr_again pair.attr dict (kind_of_value pair.value) plain fits.space fits.kind in
     none_joined (attr_text pair.attr dict) (32 ∷ 61 ∷ 32 ∷ value_text pair.attr pair.value dict)

@@ -7,7 +7,8 @@ use Rattle.rad_dict.specs.Definitions.{Definitions}
 use Rattle.rad_pairs.specs.declared.items.Item.{Item}
 use Rattle.rad_pairs.specs.Words.{is_blank}
 use Rattle.rad_pairs.specs.ValueText.{quoted, attr_text, pair_text}
-use Rattle.rad_pairs.specs.ReadingBack.{IsPlain, item_of}
+use Rattle.rad_dict.specs.EveryDictionary.{IsDictionary}
+use Rattle.rad_pairs.specs.ReadingBack.{item_of}
 use Rattle.rad_tables.specs.declared.attributes.Kind.TheVariants as kind
 use Rattle.rad_pairs.proofs.Attributes.{attr_again}
 use Rattle.mod_files.specs.declared.entry.Entry.{Entry}
@@ -15,7 +16,8 @@ use Rattle.mod_files.specs.declared.line.Line.TheVariants.{Head, Replies}
 use Rattle.mod_files.specs.Lines.{is_line_end, lines_of}
 use Rattle.mod_files.specs.LineItems.{cleartext_password}
 use Rattle.mod_files.specs.Entries.{with_replies, entries_from, users_of}
-use Rattle.mod_files.specs.Written.{User, password_item, password_text, head_text, replies_text, user_text, users_text, entries_of, IsReplyPair, IsWritable, AreWritable, KnowsPasswords}
+use Rattle.mod_files.specs.Written.{User, password_item, password_text, head_text, replies_text, user_text, users_text, entries_of, IsReplyPair, IsWritable, AreWritable}
+use Rattle.mod_files.proofs.KnownPasswords.{KnowsPasswords}
 use Rattle.mod_files.proofs.EntriesLemmas.{goes_on, no_lines, last_with_replies-push}
 use Rattle.mod_files.proofs.NoLineEnds.{has_line_end, lines_of-line, none_joined, none_in_name, none_quoted, none_in_pair}
 use Rattle.mod_files.proofs.WrittenLines.{none_of_second, head_back, reply_back}
@@ -27,7 +29,7 @@ reply_lines pairs dict = map (λ (pair : Pair). 9 ∷ pair_text pair dict) pairs
 abbrev AreReplies : List Pair → Definitions → Type 0
 AreReplies pairs dict = AllByRecursion (λ (pair : Pair). IsReplyPair pair dict) pairs
 
-lines_of-replies : (pairs : List Pair) (more : List ℕ) (dict : Definitions) → IsPlain dict → AreReplies pairs dict → lines_of (replies_text pairs dict ++ more) ≡ reply_lines pairs dict ++ lines_of more
+lines_of-replies : (pairs : List Pair) (more : List ℕ) (dict : Definitions) → IsDictionary dict → AreReplies pairs dict → lines_of (replies_text pairs dict ++ more) ≡ reply_lines pairs dict ++ lines_of more
 lines_of-replies [] more dict plain all = refl
 lines_of-replies (pair ∷ pairs) more dict plain all =
     let line = 9 ∷ pair_text pair dict in
@@ -37,7 +39,7 @@ lines_of-replies (pair ∷ pairs) more dict plain all =
     ∙ ap (λ lines. line ∷ lines) (lines_of-replies pairs more dict plain all.1)
 
 -- The lines of reply pairs add their items to the last entry.
-replies_taken : (pairs : List Pair) (number : ℕ) (entries : List Entry) (entry : Entry) (more : List (List ℕ)) (dict : Definitions) → IsPlain dict → AreReplies pairs dict
+replies_taken : (pairs : List Pair) (number : ℕ) (entries : List Entry) (entry : Entry) (more : List (List ℕ)) (dict : Definitions) → IsDictionary dict → AreReplies pairs dict
     → entries_from number (entries ++ entry ∷ []) (reply_lines pairs dict ++ more) dict ≡ entries_from (number + length pairs) (entries ++ with_replies (map item_of pairs) entry ∷ []) more dict
 replies_taken [] number entries entry more dict plain all =
     let whole : entry ≡ with_replies [] entry = ap (λ (items : List Item). record entry { replies = items }) (sym (append-nil entry.replies)) in
@@ -54,7 +56,7 @@ replies_taken (pair ∷ pairs) number entries entry more dict plain all =
     ∙ ap (λ (e : Entry). entries_from (number + 1 + length pairs) (entries ++ e ∷ []) more dict) whole
     ∙ ap (λ n. entries_from n (entries ++ with_replies (map item_of (pair ∷ pairs)) entry ∷ []) more dict) same
 
-none_in_head : (user : User) (dict : Definitions) → IsPlain dict → KnowsPasswords dict → IsWritable user dict → has_line_end (head_text user dict) ≡ false
+none_in_head : (user : User) (dict : Definitions) → IsDictionary dict → KnowsPasswords dict → IsWritable user dict → has_line_end (head_text user dict) ≡ false
 none_in_head user dict plain knows writable =
     let front = attr_text cleartext_password dict in
     let known = attr_again cleartext_password dict kind.Text plain tt knows in
@@ -65,7 +67,7 @@ abbrev entry_at : ℕ → User → List Item → Entry
 entry_at number user replies = record { name = user.name; checks = password_item user.password ∷ []; replies = replies; line = number }
 
 -- The text of a user adds its entry.
-user_taken : (user : User) (number : ℕ) (entries : List Entry) (more : List ℕ) (dict : Definitions) → IsPlain dict → KnowsPasswords dict → IsWritable user dict
+user_taken : (user : User) (number : ℕ) (entries : List Entry) (more : List ℕ) (dict : Definitions) → IsDictionary dict → KnowsPasswords dict → IsWritable user dict
     → entries_from number entries (lines_of (user_text user dict ++ more)) dict ≡ entries_from (number + 1 + length user.replies) (entries ++ entry_at number user (map item_of user.replies) ∷ []) (lines_of more) dict
 user_taken user number entries more dict plain knows writable =
     let head = head_text user dict in
@@ -79,7 +81,7 @@ user_taken user number entries more dict plain knows writable =
     ∙ sym (goes_on number entries (entries ++ first ∷ []) head (Head user.name (password_item user.password ∷ [])) (reply_lines user.replies dict ++ lines_of more) dict (head_back user.name user.password dict plain knows writable.name writable.password) refl)
     ∙ replies_taken user.replies (number + 1) entries first (lines_of more) dict plain writable.replies
 
-users_taken : (users : List User) (number : ℕ) (entries : List Entry) (dict : Definitions) → IsPlain dict → KnowsPasswords dict → AreWritable users dict
+users_taken : (users : List User) (number : ℕ) (entries : List Entry) (dict : Definitions) → IsDictionary dict → KnowsPasswords dict → AreWritable users dict
     → entries_from number entries (lines_of (users_text users dict)) dict ≡ Ok (entries ++ entries_of number users)
 users_taken [] number entries dict plain knows all = no_lines number entries dict ∙ ap Ok (sym (append-nil entries))
 users_taken (user ∷ users) number entries dict plain knows all =
@@ -89,6 +91,6 @@ users_taken (user ∷ users) number entries dict plain knows all =
     ∙ ap Ok (append_assoc entries (entry ∷ []) (entries_of (number + 1 + length user.replies) users))
 
 -- Users that are written are read back.
-pub users_back : (users : List User) (dict : Definitions) → IsPlain dict → KnowsPasswords dict → AreWritable users dict → users_of (users_text users dict) dict ≡ Ok (entries_of 1 users)
+pub users_back : (users : List User) (dict : Definitions) → IsDictionary dict → KnowsPasswords dict → AreWritable users dict → users_of (users_text users dict) dict ≡ Ok (entries_of 1 users)
 unfolding users_of
 users_back users dict plain knows all = users_taken users 1 [] dict plain knows all

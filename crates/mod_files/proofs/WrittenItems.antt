@@ -16,12 +16,14 @@ use Rattle.rad_pairs.specs.Operators.{long_operator, short_operator, operator_at
 use Rattle.rad_pairs.specs.Words.{after_blanks}
 use Rattle.rad_pairs.specs.PairParts.{operator_of, value_at}
 use Rattle.rad_pairs.specs.Items.{◌>>=◌, pair_at, part_at, pairs_in, placed, items_of}
-use Rattle.rad_pairs.specs.ReadingBack.{AreOctets, IsName, IsPlain}
-use Rattle.rad_pairs.proofs.Names.{name_len_is, no_blanks, no_separator}
+use Rattle.rad_dict.specs.EveryDictionary.{IsDictionary}
+use Rattle.rad_pairs.specs.ReadingBack.{AreOctets}
+use Rattle.rad_pairs.proofs.Names.{IsName, name_len_is, no_blanks, no_separator}
 use Rattle.rad_pairs.proofs.Quoted.{quoted_read}
 use Rattle.rad_pairs.proofs.Attributes.{attr_kind, attr_again}
 use Rattle.mod_files.specs.LineItems.{cleartext_password}
-use Rattle.mod_files.specs.Written.{password_item, password_text, KnowsPasswords}
+use Rattle.mod_files.specs.Written.{password_item, password_text}
+use Rattle.mod_files.proofs.KnownPasswords.{KnowsPasswords}
 
 none_left : (turns : ℕ) (dict : Definitions) → pairs_in turns [] dict ≡ Ok []
 unfolding pairs_in
@@ -125,7 +127,7 @@ part_read (c ∷ name) password dict is e all =
     rw (no_blanks (c ∷ name) (32 ∷ 58 ∷ 61 ∷ 32 ∷ (quoted password ++ [])) is, no_line, pair_read (c ∷ name) password dict is e all) refl
 
 -- A password's text has the password's item alone.
-pub password_back : (password : List ℕ) (dict : Definitions) → IsPlain dict → KnowsPasswords dict → AreOctets password → items_of (password_text password dict) dict ≡ Ok (password_item password ∷ [])
+pub password_back : (password : List ℕ) (dict : Definitions) → IsDictionary dict → KnowsPasswords dict → AreOctets password → items_of (password_text password dict) dict ≡ Ok (password_item password ∷ [])
 unfolding items_of
 password_back password dict plain knows all =
     let name = attr_again cleartext_password dict kind.Text plain tt knows in

@@ -10,14 +10,19 @@ use Rattle.rad_pairs.specs.declared.items.Item.{Item}
 use Rattle.rad_pairs.specs.Words.{is_blank}
 use Rattle.rad_pairs.specs.Items.{items_of}
 use Rattle.rad_pairs.specs.ValueText.{attr_text, value_text, pair_text}
-use Rattle.rad_pairs.specs.ReadingBack.{AreOctets, IsName, IsPlain, is_name_octet, kind_of_value, item_of}
+use Rattle.rad_dict.specs.NameForms.{is_name_octet}
+use Rattle.rad_dict.specs.EveryDictionary.{IsDictionary}
+use Rattle.rad_value.specs.Kinds.{kind_of_value}
+use Rattle.rad_pairs.specs.ReadingBack.{AreOctets, item_of}
+use Rattle.rad_pairs.proofs.Names.{IsName}
 use Rattle.rad_pairs.proofs.Attributes.{attr_again}
 use Rattle.rad_pairs.proofs.ReadBack.{read_back}
 use Rattle.mod_files.specs.declared.line.Line.TheVariants.{Passed, Head, Replies}
 use Rattle.mod_files.specs.Lines.{is_line_end, is_passed, is_indented, is_name}
 use Rattle.mod_files.specs.LineItems.{is_one_password, are_replies}
 use Rattle.mod_files.specs.Line.{head_with, head_of, replies_with, line_of}
-use Rattle.mod_files.specs.Written.{password_item, password_text, IsBareName, IsReplyPair, KnowsPasswords}
+use Rattle.mod_files.specs.Written.{password_item, password_text, IsBareName, IsReplyPair}
+use Rattle.mod_files.proofs.KnownPasswords.{KnowsPasswords}
 use Rattle.mod_files.proofs.WrittenItems.{items_behind_tab, password_back}
 
 module _ {X : Type 0} (p : X → Bool) where
@@ -78,7 +83,7 @@ as_replies line items dict says indented read built =
     ∙ ap (λ b. cond b (Some (Replies items)) None) built
 
 -- The first line of a user.
-pub head_back : (name password : List ℕ) (dict : Definitions) → IsPlain dict → KnowsPasswords dict → IsBareName name → AreOctets password
+pub head_back : (name password : List ℕ) (dict : Definitions) → IsDictionary dict → KnowsPasswords dict → IsBareName name → AreOctets password
     → line_of (name ++ 32 ∷ password_text password dict) dict ≡ Some (Head name (password_item password ∷ []))
 head_back [] password dict plain knows bare all = absurd (true≢false bare.says)
 head_back (c ∷ name) password dict plain knows bare all =
@@ -98,7 +103,7 @@ not_passed (c ∷ name) more is =
     passed_by_first c (name ++ more) (or_from (eqb c 32) (eqb c 9) (is_not 32 refl) (is_not 9 refl)) ∙ is_not 35 refl
 
 -- The line of a reply pair.
-pub reply_back : (pair : Pair) (dict : Definitions) → IsPlain dict → IsReplyPair pair dict → line_of (9 ∷ pair_text pair dict) dict ≡ Some (Replies (item_of pair ∷ []))
+pub reply_back : (pair : Pair) (dict : Definitions) → IsDictionary dict → IsReplyPair pair dict → line_of (9 ∷ pair_text pair dict) dict ≡ Some (Replies (item_of pair ∷ []))
 reply_back pair dict plain reply =
     let name = attr_again pair.attr dict (kind_of_value pair.value) plain reply.fits.space reply.fits.kind in
     let behind = 32 ∷ 61 ∷ 32 ∷ value_text pair.attr pair.value dict in

@@ -1,20 +1,18 @@
 -- What the module `files` does to a request's lists in authorize: the entry of the User-Name has its check items done
 -- to the control list and then its reply items to the reply list. After users(5) and the manual page rlm_files(5);
 -- that it stops at a full list is this project's own.
-use Rattle.std.specs.Prelude.{ℕ, Bool, true, false, List, [], ◌∷◌, ◌++◌, Option, Some, None, slice_get, filter_map}
+use Rattle.std.specs.Prelude.{ℕ, Bool, true, false, List, [], ◌∷◌, ◌++◌, Option, Some, None, unwrap_or, filter_map}
 use Rattle.std.specs.Option.{option_map}
 use Rattle.rad_tables.specs.declared.attributes.AttrId.{AttrId}
 use Rattle.rad_tables.specs.declared.attributes.Space.TheVariants.{Standard}
 use Rattle.rad_tables.specs.declared.codes.Code.{Code}
 use Rattle.rad_tables.specs.declared.codes.Code.TheVariants as code
-use Rattle.rad_value.specs.declared.values.Value.{Value}
-use Rattle.rad_value.specs.declared.values.Value.TheVariants.{Text, Octets, Addr, Number, Date, Byte, Short}
 use Rattle.rad_value.specs.declared.edits.Edit.{Edit}
 use Rattle.rad_value.specs.declared.edits.EditOp.{EditOp}
 use Rattle.rad_value.specs.declared.edits.EditOp.TheVariants as edit
 use Rattle.rad_value.specs.declared.edits.ListName.{ListName}
 use Rattle.rad_value.specs.declared.edits.ListName.TheVariants.{Reply, Control}
-use Rattle.rad_value.specs.Pairs.{values_of}
+use Rattle.rad_value.specs.Pairs.{first_text}
 use Rattle.rad_value.specs.PairLists.{PairLists}
 use Rattle.rad_value.specs.Edit.{tried}
 use Rattle.rad_pairs.specs.declared.items.Item.{Item}
@@ -66,20 +64,9 @@ code_of false = code.Fail
 abbrev pub user_name : AttrId
 user_name = record { space = Standard; number = 1 }
 
--- A text, and the empty text for every other value.
-abbrev pub text_in : Option Value → List ℕ
-text_in None = []
-text_in (Some (Text text)) = text
-text_in (Some (Octets octets)) = []
-text_in (Some (Addr address)) = []
-text_in (Some (Number number)) = []
-text_in (Some (Date seconds)) = []
-text_in (Some (Byte number)) = []
-text_in (Some (Short number)) = []
-
--- The key of a request: the text of its first User-Name.
+-- The key of a request: the text of its first User-Name, or the empty text.
 abbrev pub key_of : PairLists → List ℕ
-key_of lists = text_in (slice_get (values_of user_name lists.request) 0)
+key_of lists = unwrap_or (first_text user_name lists.request) []
 
 -- What is done where this entry, if any, is the user's.
 abbrev pub entry_done : Option Entry → PairLists → PairLists × Code

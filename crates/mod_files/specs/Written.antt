@@ -1,8 +1,7 @@
 -- Users that are written as a users file: each a line with the name and the password, and an indented line for each
 -- reply pair, as it is printed. After users(5).
-use Rattle.std.specs.Prelude.{◌≡◌, ℕ, ◌+◌, ◌||◌, List, [], ◌∷◌, ◌++◌, length, map, Some, IsTrue, IsFalse, codes}
+use Rattle.std.specs.Prelude.{ℕ, ◌+◌, ◌||◌, List, [], ◌∷◌, ◌++◌, length, map, IsTrue, IsFalse, codes}
 use Rattle.std.specs.List.{list_any, AllByRecursion}
-use Rattle.rad_tables.specs.declared.attributes.Kind.TheVariants as kind
 use Rattle.rad_value.specs.declared.values.Pair.{Pair}
 use Rattle.rad_value.specs.declared.values.Value.TheVariants as value
 use Rattle.rad_dict.specs.Definitions.{Definitions}
@@ -10,7 +9,7 @@ use Rattle.rad_pairs.specs.declared.items.Item.{Item}
 use Rattle.rad_pairs.specs.declared.items.PairOp.TheVariants as op
 use Rattle.rad_pairs.specs.Words.{is_blank}
 use Rattle.rad_pairs.specs.ValueText.{quoted, attr_text, pair_text}
-use Rattle.rad_pairs.specs.ReadingBack.{AreOctets, IsOfKind, item_of, kind_of}
+use Rattle.rad_pairs.specs.ReadingBack.{AreOctets, IsOfKind, item_of}
 use Rattle.mod_files.specs.declared.entry.Entry.{Entry}
 use Rattle.mod_files.specs.Lines.{is_line_end, is_passed, is_name}
 use Rattle.mod_files.specs.LineItems.{cleartext_password, is_reply}
@@ -70,7 +69,3 @@ pub record IsWritable (user : User) (dict : Definitions) : Type 0 where
 
 abbrev pub AreWritable : List User → Definitions → Type 0
 AreWritable users dict = AllByRecursion (λ (user : User). IsWritable user dict) users
-
--- The dictionary knows the password's attribute, as a text.
-abbrev pub KnowsPasswords : Definitions → Type 0
-KnowsPasswords dict = kind_of cleartext_password dict ≡ Some kind.Text

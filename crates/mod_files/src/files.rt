@@ -7,7 +7,7 @@ use crate::{Entry, Users};
 use rad_edge::NoMemory;
 use rad_pairs::{Item, ItemList, PairOp};
 use rad_tables::{AttrId, Code, Space};
-use rad_value::{Edit, EditOp, ListName, Lists, Value};
+use rad_value::{Edit, EditOp, ListName, Lists};
 use std::alloc::Global;
 
 /// The attribute whose value names the user.
@@ -20,9 +20,9 @@ const USER_NAME: AttrId = AttrId {
 fn key_of(lists: &Lists) -> &[u8]
     ensures { result.now ≡ key_of lists.now }
 {
-    match lists.nth(ListName::Request, USER_NAME, 0) {
-        Some(Value::Text(text)) => text.as_slice(),
-        _ => &[],
+    match lists.first_text(ListName::Request, USER_NAME) {
+        Some(name) => name,
+        None => &[],
     }
 }
 
