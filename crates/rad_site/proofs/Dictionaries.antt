@@ -1,13 +1,13 @@
 -- The dictionary of a site, by its file that was read.
 use Rattle.std.proofs.Common.{◌≡◌, ℕ, List, Option, Some, None, Result, Ok, Err, sym, ap, subst, ◌∙◌}
-use Rattle.rad_edge.specs.Files.{FilesTold, octets_at}
+use Rattle.rad_edge.specs.Files.{File, FilesTold, octets_at}
 use Rattle.rad_edge.specs.Telling.{Tells}
 use Rattle.rad_dict.specs.declared.fault.DictFault.{DictFault}
 use Rattle.rad_dict.specs.declared.fault.DictFault.TheVariants as dict
 use Rattle.rad_dict.specs.Answers.{IsAnswer}
 use Rattle.rad_dict.specs.Base.{base_definitions}
 use Rattle.rad_dict.specs.Definitions.{Definitions}
-use Rattle.rad_dict.specs.Includes.{dict_of}
+use Rattle.rad_dict.specs.Includes.{dict_from, dict_of}
 use Rattle.rad_conf.specs.Conf.{path_of}
 use Rattle.rad_core.specs.Policy.{Sources}
 use Rattle.rad_site.specs.declared.fault.BuildFault.{BuildFault}
@@ -44,16 +44,21 @@ said (Err (dict.TooLong place)) all is = ap of_dict is
 said (Err dict.ReadFault) all is = tt
 said (Err dict.NoMemory) all is = tt
 
+of_text : (path text : List ℕ) (files : List File) → octets_at path files ≡ Some text → dict_from path files (Some text) ≡ dict_of path files
+unfolding dict_of
+of_text path text files read = ap (dict_from path files) (sym read)
+
 pub found_read : (folder path text : List ℕ) (answer : Result Definitions DictFault) (a b c : Option FilesTold) → path ≡ path_of folder dict_name
-    → Tells a b (λ before now. (now ≡ before) × (octets_at path before.present ≡ Some text)) → Tells b c (λ before now. (now ≡ before) × IsAnswer (dict_of path before.present) answer)
+    → Tells a b (λ before now. (now ≡ before) × (octets_at path before.present ≡ Some text)) → Tells b c (λ before now. (now ≡ before) × IsAnswer (dict_from path before.present (Some text)) answer)
     → FindsIn folder dict_at (of_dict answer) a c
 unfolding by_file
 found_read folder path text answer a b None is first second = tt
 found_read folder path text answer a None (Some now) is first second = absurd second
 found_read folder path text answer None (Some between) (Some now) is first second = absurd first
 found_read folder path text answer (Some before) (Some between) (Some now) is first second =
-    let sources : Sources = record { files = before.present; folder = folder } in (
+    let sources : Sources = record { files = before.present; folder = folder } in
+    let of_file = subst (λ (told : FilesTold). IsAnswer (dict_from path told.present (Some text)) answer) first.0 second.1 in (
       second.0 ∙ first.0,
       subst (λ r. Finds (of_dict answer) r) (sym (by_path sources path (Some text) is first.1))
-          (said answer (dict_of path before.present) (subst (λ (told : FilesTold). IsAnswer (dict_of path told.present) answer) first.0 second.1)),
+          (said answer (dict_of path before.present) (subst (λ r. IsAnswer r answer) (of_text path text before.present first.1) of_file)),
     )

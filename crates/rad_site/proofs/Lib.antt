@@ -10,3 +10,8 @@ pub mod UsersFiles
 pub mod Sites
 pub mod Dictionaries
 pub mod Building
+pub mod SetValues
+pub mod UsersChecks
+pub mod PasswordKept
+pub mod PasswordsChecked
+pub mod PasswordLetsIn

@@ -5,14 +5,14 @@ use Rattle.rad_tables.specs.declared.codes.Code.{Code}
 use Rattle.rad_tables.specs.declared.codes.Code.TheVariants as code
 use Rattle.rad_tables.specs.declared.sections.Section.TheVariants.{Authorize, Authenticate}
 use Rattle.rad_value.specs.declared.values.Pair.{Pair}
-use Rattle.rad_value.specs.Pairs.{is_of}
+use Rattle.rad_value.specs.Pairs.{is_of, first_text}
 use Rattle.rad_value.specs.PairLists.{PairLists}
 use Rattle.mod_files.specs.declared.entry.Entry.{Entry}
 use Rattle.rad_site.specs.declared.statement.Statement.{Statement}
 use Rattle.rad_site.specs.declared.statement.Subsection.{Subsection}
 use Rattle.rad_site.specs.declared.verdict.Verdict.{Verdict}
 use Rattle.rad_site.specs.declared.verdict.Verdict.TheVariants as verdict
-use Rattle.rad_site.specs.Attributes.{auth_type, reply_message, first_text}
+use Rattle.rad_site.specs.Attributes.{auth_type, reply_message}
 use Rattle.rad_site.specs.Run.{section_done}
 
 -- What authorize decides by its code: none where the request goes on.

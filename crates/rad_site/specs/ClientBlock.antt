@@ -2,13 +2,13 @@
 use Rattle.std.specs.Prelude.{ℕ, ◌&&◌, List, Option, Some, None, Result, Ok, length, nat_lt, codes, if◌then◌else◌}
 use Rattle.std.specs.Option.{is_none}
 use Rattle.std.specs.Str.{bytes_eq}
+use Rattle.rad_pairs.specs.ValueReading.{address_of}
 use Rattle.rad_conf.specs.declared.tree.Node.{Node}
 use Rattle.rad_wire.specs.declared.client.Client.{Client}
 use Rattle.rad_site.specs.declared.fault.BuildFault.{BuildFault}
 use Rattle.rad_site.specs.declared.build.client.Settings.{Settings}
 use Rattle.rad_site.specs.Nodes.{◌>>=◌, refused, needed, after_each}
 use Rattle.rad_site.specs.Items.{setting_of, named_block}
-use Rattle.rad_site.specs.Address.{address_of}
 
 -- The secret that a text is, where it has 1 to 128 octets.
 abbrev pub secret_value : List ℕ → Option (List ℕ)

@@ -2,6 +2,7 @@ pub mod Attributes
 pub mod Edits
 pub mod Judgement
 pub mod Pap
+pub mod Passwords
 pub mod Run
 pub mod Access
 pub mod Site
@@ -9,7 +10,6 @@ pub mod Request
 pub mod Sources
 pub mod Nodes
 pub mod Items
-pub mod Address
 pub mod ClientBlock
 pub mod Statements
 pub mod Subsections

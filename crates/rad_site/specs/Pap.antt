@@ -6,8 +6,9 @@ use Rattle.rad_tables.specs.declared.codes.Code.{Code}
 use Rattle.rad_tables.specs.declared.codes.Code.TheVariants as code
 use Rattle.rad_tables.specs.declared.sections.Section.{Section}
 use Rattle.rad_tables.specs.declared.sections.Section.TheVariants as section
+use Rattle.rad_value.specs.Pairs.{first_value, first_text}
 use Rattle.rad_value.specs.PairLists.{PairLists}
-use Rattle.rad_site.specs.Attributes.{user_password, auth_type, cleartext_password, first_value, first_text}
+use Rattle.rad_site.specs.Attributes.{user_password, auth_type, cleartext_password}
 use Rattle.rad_site.specs.Edits.{with_edit, auth_type_set}
 
 -- The password that a request came with, and the one that is known of its user.

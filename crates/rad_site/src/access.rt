@@ -5,7 +5,7 @@ ghost use Rattle.std.specs.Option.{option_copied};
 ghost use Rattle.std.specs.Result.{result_map_both};
 ghost use Rattle.rad_site.specs.Access.{after_authorize, after_authenticate, subsection_of, is_named, route_of, authenticated, decided};
 
-use crate::attributes::{AUTH_TYPE, first_text};
+use crate::attributes::AUTH_TYPE;
 use crate::run::run_section;
 use crate::statement::{Statement, Subsection};
 use crate::verdict::Verdict;
@@ -88,7 +88,7 @@ fn authenticate(
 ) -> Result<Verdict, NoMemory>
     ensures { IfOk result (λ verdict. (lists.new, verdict) ≡ authenticated users.now subsections.now lists.old) }
 {
-    match route_of(first_text(lists, ListName::Control, AUTH_TYPE), subsections) {
+    match route_of(lists.first_text(ListName::Control, AUTH_TYPE), subsections) {
         Err(verdict) => Ok(verdict),
         Ok(subsection) => {
             let statements = subsection.statements.as_slice();

@@ -1,6 +1,5 @@
 //! A generation from the tree of its configuration, or the first fault at its place.
 
-mod address;
 mod client;
 mod dictionary;
 mod item;

@@ -4,7 +4,7 @@ ghost use Rattle.std.specs.Prelude.{◌≡◌, IfOk};
 ghost use Rattle.std.specs.Option.{option_copied};
 ghost use Rattle.rad_site.specs.Pap.{given_password, known_password, is_idle, compared, pap_authorized, pap_authenticated, pap_done};
 
-use crate::attributes::{AUTH_TYPE, CLEARTEXT_PASSWORD, USER_PASSWORD, first_text};
+use crate::attributes::{AUTH_TYPE, CLEARTEXT_PASSWORD, USER_PASSWORD};
 use crate::edits::set_auth_type;
 use rad_edge::NoMemory;
 use rad_tables::{Code, Section};
@@ -18,14 +18,14 @@ const PAP: &[u8] = b"pap";
 fn given_password(lists: &Lists) -> Option<&[u8]>
     ensures { option_copied result ≡ given_password lists.now }
 {
-    first_text(lists, ListName::Request, USER_PASSWORD)
+    lists.first_text(ListName::Request, USER_PASSWORD)
 }
 
 /// The password that is known of the user.
 fn known_password(lists: &Lists) -> Option<&[u8]>
     ensures { option_copied result ≡ known_password lists.now }
 {
-    first_text(lists, ListName::Control, CLEARTEXT_PASSWORD)
+    lists.first_text(ListName::Control, CLEARTEXT_PASSWORD)
 }
 
 /// Whether there is nothing to check, or Auth-Type is set already.

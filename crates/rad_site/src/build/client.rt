@@ -4,12 +4,12 @@ ghost use Rattle.std.specs.Prelude.{◌≡◌};
 ghost use Rattle.rad_site.specs.Nodes.{Gives, after_each};
 ghost use Rattle.rad_site.specs.ClientBlock.{no_settings, with_setting, client_at};
 
-use crate::build::address::address_of;
 use crate::build::item::{named_block, setting_of};
 use crate::build::refusal::refuse;
 use crate::fault::BuildFault;
 use rad_conf::Node;
 use rad_edge::Octets;
+use rad_pairs::address_of;
 use rad_wire::Client;
 use std::alloc::Global;
 

@@ -5,8 +5,8 @@ ghost use Rattle.rad_edge.specs.Telling.{Counts};
 ghost use Rattle.rad_site.specs.Built.{dict_at};
 ghost use Rattle.rad_site.specs.Sources.{FindsIn};
 
-use crate::build::path::path_of;
 use crate::fault::BuildFault;
+use rad_conf::path_of;
 use rad_dict::Dict;
 use rad_edge::{Files, Found};
 use std::alloc::Global;
@@ -22,7 +22,10 @@ pub(crate) fn dict_at<F: Files>(alloc: Global, files: &mut F, dir: &str) -> Resu
     let path = path_of(alloc, dir, DICTIONARY)?;
     match files.read(alloc, path.as_str()) {
         Found::Missing => Ok(Dict::base(alloc)?),
-        Found::Bytes(_) => Ok(Dict::read(alloc, files, path.as_str())?),
+        Found::Bytes(octets) => {
+            let text = octets.as_slice();
+            Ok(Dict::of_file(alloc, files, path.as_str(), text)?)
+        }
         Found::Failed => Err(BuildFault::ReadFault),
         Found::NoMemory => Err(BuildFault::NoMemory),
     }

@@ -2,20 +2,10 @@
 
 ghost use Rattle.std.specs.Prelude.{◌≡◌, IfOk};
 ghost use Rattle.std.specs.String.{string_bytes};
-ghost use Rattle.rad_conf.specs.Conf.{path_of};
 ghost use Rattle.rad_site.specs.ModulesBlock.{file_path};
 
+use rad_conf::path_of;
 use std::alloc::{AllocError, Global};
-
-/// The path of a file in a folder.
-pub(crate) fn path_of(alloc: Global, dir: &str, name: &str) -> Result<String, AllocError>
-    ensures { IfOk result (λ path. string_bytes path ≡ path_of dir.now name.now) }
-{
-    let mut path = String::from_str(alloc, dir)?;
-    path.push_str("/")?;
-    path.push_str(name)?;
-    Ok(path)
-}
 
 /// The path of a file that a setting names: below the site's folder, or as it stands where it begins with `/`.
 pub(crate) fn file_path(alloc: Global, dir: &str, name: &str) -> Result<String, AllocError>
