@@ -17,6 +17,3 @@ pub use entry::Entry;
 pub use fault::UsersFault;
 pub use laws::written_users_are_read_back;
 pub use users::Users;
-
-#[cfg(test)]
-mod tests;

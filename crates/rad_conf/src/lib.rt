@@ -16,6 +16,3 @@ pub use fault::ConfFault;
 pub use laws::a_tree_is_what_its_marks_make;
 pub use reading::{path_of, read_conf};
 pub use tree::{Conf, Item, Node, NodeList, Quote, Word};
-
-#[cfg(test)]
-mod tests;

@@ -26,6 +26,3 @@ mod vendors;
 pub use definitions::{AttrDef, ValueDef};
 pub use dictionary::Dict;
 pub use fault::DictFault;
-
-#[cfg(test)]
-mod tests;

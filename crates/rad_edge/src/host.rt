@@ -12,6 +12,3 @@ pub use crew::UdpCrew;
 pub use files::HostFiles;
 pub use sink::HostSink;
 pub use udp_wire::UdpWire;
-
-#[cfg(test)]
-mod tests;

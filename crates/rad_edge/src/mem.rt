@@ -21,6 +21,3 @@ pub use open_gate::OpenGate;
 pub use shelf::MemShelf;
 pub use sink::MemSink;
 pub use wire::{Cue, MemWire};
-
-#[cfg(test)]
-mod tests;

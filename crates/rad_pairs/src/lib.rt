@@ -22,6 +22,3 @@ pub use laws::printed_pairs_are_read_back;
 pub use pair_reading::read_pairs;
 pub use printing::{print_pair, print_value};
 pub use value_reading::{address_of, read_value};
-
-#[cfg(test)]
-mod tests;

@@ -63,6 +63,3 @@ pub fn default_actions(section: Section, kind: GroupKind) -> Actions<9>
         ],
     }
 }
-
-#[cfg(test)]
-mod tests;

@@ -102,6 +102,3 @@ fn name_in(rows: &[NameRow], number: u32) -> Option<&'static [u8]>
     }
     None
 }
-
-#[cfg(test)]
-mod tests;

@@ -14,6 +14,3 @@ pub use comparison::{Cmp, compare};
 pub use edits::{Edit, EditFault, EditOp, ListName, Updated};
 pub use pair_lists::Lists;
 pub use values::{Pair, Value};
-
-#[cfg(test)]
-mod tests;

@@ -28,14 +28,3 @@ pub use laws::{
     vendor_parts_have_one_reading,
 };
 pub use reply::reply_bytes;
-
-#[cfg(test)]
-mod decoding_tests;
-#[cfg(test)]
-mod fixtures;
-#[cfg(test)]
-mod hiding_tests;
-#[cfg(test)]
-mod reply_tests;
-#[cfg(test)]
-mod tests;

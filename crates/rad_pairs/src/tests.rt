@@ -1,3 +1,0 @@
-mod printing;
-mod reading;
-mod showing;
