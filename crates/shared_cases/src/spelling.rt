@@ -111,11 +111,16 @@ pub fn words<'a>(alloc: Global, text: &'a [u8]) -> Result<Vec<&'a [u8]>, NoMemor
     Ok(list)
 }
 
-/// The decimal numbers of a text, which blanks and newlines part.
+/// The decimal numbers of a text, which blanks and newlines part. `A..B` says the numbers from A up to B.
 pub fn numbers(alloc: Global, text: &[u8]) -> Result<Vec<u64>, NoMemory> {
     let mut list = Vec::new(alloc);
     for word in words(alloc, text)? {
-        list.push(decimal(word))?;
+        let mut ends = word.split(|octet| *octet == b'.');
+        let first = decimal(ends.next().unwrap_or(&[]));
+        let last = ends.last().map_or(first, decimal);
+        for number in first..=last {
+            list.push(number)?;
+        }
     }
     Ok(list)
 }

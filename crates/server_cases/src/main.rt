@@ -1,0 +1,50 @@
+//! Worked examples of the whole server, over devices in memory: the program reads them from files, runs each through the
+//! server's top call, and compares all that the server did with what the file says. A case is written in fields; what
+//! they mean stands at the head of `data/serving.cases`. There is no model and no contract. Nothing stands above it.
+#![tactic(auto)]
+
+mod plan;
+mod running;
+mod script;
+mod transcript;
+
+use rad_edge::NoMemory;
+use running::Server;
+use shared_cases::{Form, Tally};
+use std::alloc::Global;
+use std::process::ExitCode;
+use std::rt::Files;
+use std::sync::Wait;
+
+/// The files of cases.
+const FILES: [&str; 6] = [
+    "serving.cases",
+    "failing.cases",
+    "words.cases",
+    "sites.cases",
+    "users.cases",
+    "dictionaries.cases",
+];
+
+/// Tries all cases, and those whose expectations are wrong on purpose.
+fn tally_of<R: Files + Input + Wait>(
+    rt: &R,
+    alloc: Global,
+    wrong: &mut Tally,
+) -> Result<Tally, NoMemory> {
+    let mut server = Server { rt };
+    let mut tally = Tally::new(alloc);
+    for file in FILES {
+        tally.judge_file(rt, &mut server, Form::Blocks, file)?;
+    }
+    wrong.judge_file(rt, &mut server, Form::Blocks, "wrong.cases")?;
+    Ok(tally)
+}
+
+fn main(rt: HostRuntime) -> ExitCode {
+    let mut wrong = Tally::new(rt.alloc());
+    match tally_of(&rt, rt.alloc(), &mut wrong) {
+        Ok(tally) => tally.finish(&rt, &wrong),
+        Err(NoMemory) => ExitCode::from(1),
+    }
+}

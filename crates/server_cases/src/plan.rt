@@ -1,0 +1,56 @@
+//! What a case says of one run of the server.
+
+use rad_edge::{Cue, NoMemory, Octets, Peer};
+use std::alloc::Global;
+
+/// A file of a map: its path and its octets.
+pub type File = (Octets, Octets);
+
+/// A run: the words, and what its devices hold and do.
+#[derive(Drop)]
+pub struct Plan {
+    /// The words of the command line, where the case says others than the usual ones.
+    pub words: Option<Vec<String>>,
+    /// The maps of files, the first of which is present at the start.
+    pub maps: Vec<Vec<File>>,
+    /// What the wire answers, in order.
+    pub script: Vec<Cue>,
+    /// Where the datagrams come from that are written next.
+    pub from: Peer,
+    /// The moments of the clock, in seconds, and the words of the luck.
+    pub moments: Vec<u64>,
+    pub luck: Vec<u64>,
+    /// Which calls fail, by their numbers from 1.
+    pub failing_reads: Vec<u64>,
+    pub failing_receives: Vec<u64>,
+    pub failing_sends: Vec<u64>,
+    pub failing_writes: Vec<u64>,
+    pub failing_kits: Vec<u64>,
+    /// Whether the crew has a kit to hand out.
+    pub has_kit: bool,
+}
+
+impl Plan {
+    /// The run of a case that says nothing: no file, no datagram, no failure, the source 192.168.1.16 at port 1234.
+    pub fn new(alloc: Global) -> Result<Plan, NoMemory> {
+        let mut maps = Vec::new(alloc);
+        maps.push(Vec::new(alloc))?;
+        Ok(Plan {
+            words: None,
+            maps,
+            script: Vec::new(alloc),
+            from: Peer {
+                addr: 0xc0a8_0110,
+                port: 1234,
+            },
+            moments: Vec::new(alloc),
+            luck: Vec::new(alloc),
+            failing_reads: Vec::new(alloc),
+            failing_receives: Vec::new(alloc),
+            failing_sends: Vec::new(alloc),
+            failing_writes: Vec::new(alloc),
+            failing_kits: Vec::new(alloc),
+            has_kit: true,
+        })
+    }
+}
