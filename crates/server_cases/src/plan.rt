@@ -26,6 +26,10 @@ pub struct Plan {
     pub failing_sends: Vec<u64>,
     pub failing_writes: Vec<u64>,
     pub failing_kits: Vec<u64>,
+    /// Which appends fail, by their numbers, and how many octets are appended all the same: of the kit's shelf, and of the
+    /// session log, for which the first run's count.
+    pub failing_appends: Vec<(u64, usize)>,
+    pub failing_log: Vec<(u64, usize)>,
     /// Whether the crew has a kit to hand out.
     pub has_kit: bool,
 }
@@ -50,6 +54,8 @@ impl Plan {
             failing_sends: Vec::new(alloc),
             failing_writes: Vec::new(alloc),
             failing_kits: Vec::new(alloc),
+            failing_appends: Vec::new(alloc),
+            failing_log: Vec::new(alloc),
             has_kit: true,
         })
     }

@@ -10,6 +10,7 @@ use rad_edge::{
 use radiusd::{Hub, radiusd};
 use shared_cases::{Case, Subject};
 use std::alloc::Global;
+use std::mem;
 use std::sync::Wait;
 
 /// The kits of memory.
@@ -34,10 +35,14 @@ impl<R: Wait> Subject for Server<'_, R> {
 }
 
 /// All runs of a case, one after another on one hub, and what they did.
-fn run_all<R: Wait>(rt: &R, alloc: Global, plans: Vec<Plan>) -> Result<Vec<u8>, NoMemory> {
+fn run_all<R: Wait>(rt: &R, alloc: Global, mut plans: Vec<Plan>) -> Result<Vec<u8>, NoMemory> {
     let mut did = Vec::new(alloc);
     let path = Octets::of(alloc, "radutmp.log".as_bytes())?;
-    let mut hub = Hub::new(alloc, MemShelf::new(alloc, Vec::new(alloc)), path)?;
+    let failing_log = match plans.first_mut() {
+        Some(first) => mem::replace(&mut first.failing_log, Vec::new(alloc)),
+        None => Vec::new(alloc),
+    };
+    let mut hub = Hub::new(alloc, MemShelf::new(alloc, failing_log), path)?;
     for plan in plans {
         run(rt, alloc, plan, &mut hub, &mut did)?;
     }
@@ -66,6 +71,7 @@ fn run<R: Wait>(
             ),
             ListClock::new(plan.moments),
             ListLuck::new(plan.luck),
+            MemShelf::new(alloc, plan.failing_appends),
         )?;
     }
     let words = match plan.words {
@@ -95,12 +101,13 @@ fn add_kit(
     wire: MemWire,
     clock: ListClock,
     luck: ListLuck,
+    shelf: MemShelf,
 ) -> Result<(), NoMemory> {
     crew.add(Kit {
         listener: 0,
         wire,
         control: None,
-        shelf: MemShelf::new(alloc, Vec::new(alloc)),
+        shelf,
         clock,
         luck,
         gate: OpenGate,

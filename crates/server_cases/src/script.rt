@@ -37,6 +37,8 @@ fn take(alloc: Global, plan: &mut Plan, name: &[u8], text: &[u8]) -> Result<bool
         }
         b"quiet" => plan.script.push(Cue::Quiet)?,
         b"no-kit" => plan.has_kit = false,
+        b"failing-appends" => plan.failing_appends = cuts_of(alloc, text)?,
+        b"failing-log" => plan.failing_log = cuts_of(alloc, text)?,
         b"gives" => {}
         _ => return take_numbers(alloc, plan, name, text),
     }
@@ -62,6 +64,18 @@ fn take_numbers(
         _ => return Ok(false),
     }
     Ok(true)
+}
+
+/// Numbers of appends that fail, each with how many octets are appended all the same, as in `3:2`.
+fn cuts_of(alloc: Global, text: &[u8]) -> Result<Vec<(u64, usize)>, NoMemory> {
+    let mut cuts = Vec::new(alloc);
+    for word in words(alloc, text)? {
+        let mut parts = word.split(|octet| *octet == b':');
+        let number = decimal(parts.next().unwrap_or(&[]));
+        let count = decimal(parts.next().unwrap_or(&[]));
+        cuts.push((number, usize::try_from(count).unwrap_or(0)))?;
+    }
+    Ok(cuts)
 }
 
 /// Adds a file of the folder `site` to the last map.
