@@ -2,7 +2,7 @@
 
 ghost use Rattle.std.specs.Prelude.{◌≡◌, IfOk};
 
-use rad_edge::{NoMemory, Octets};
+use rad_outside::{NoMemory, Octets};
 use rad_pairs::ItemList;
 
 /// An entry of a users file, as users(5) has it: its name, the check items behind the name, the reply items of the

@@ -1,6 +1,6 @@
 //! Why a users file could not be read.
 
-use rad_edge::NoMemory;
+use rad_outside::NoMemory;
 use std::alloc::{AllocError, AllocFailed};
 use thiserror::Error;
 

@@ -4,7 +4,7 @@ ghost use Rattle.std.specs.Prelude.{◌≡◌, ◌∷◌, [], IfOk};
 ghost use Rattle.mod_files.specs.Files.{edit_op, edit_of, edits_of, entry_edits, all_tried, key_of, files_done};
 
 use crate::{Entry, Users};
-use rad_edge::NoMemory;
+use rad_outside::NoMemory;
 use rad_pairs::{Item, ItemList, PairOp};
 use rad_tables::{AttrId, Code, Space};
 use rad_value::{Edit, EditOp, ListName, Lists};

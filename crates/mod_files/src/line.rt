@@ -8,7 +8,7 @@ use crate::fault::LineError;
 use crate::line_items::{are_replies, is_one_password, items_in};
 use crate::lines::{is_indented, is_name, is_passed, name_and_rest};
 use rad_dict::Dict;
-use rad_edge::Octets;
+use rad_outside::Octets;
 use rad_pairs::ItemList;
 use std::alloc::Global;
 

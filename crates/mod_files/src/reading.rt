@@ -8,7 +8,7 @@ use crate::fault::{LineError, UsersFault};
 use crate::line::{Line, line_of};
 use crate::lines::first_line;
 use rad_dict::Dict;
-use rad_edge::Octets;
+use rad_outside::Octets;
 use rad_pairs::ItemList;
 use std::alloc::Global;
 

@@ -7,7 +7,7 @@ ghost use Rattle.mod_files.specs.Places.{place_in, place_of};
 use crate::reading::read_entries;
 use crate::{Entry, UsersFault};
 use rad_dict::Dict;
-use rad_edge::NoMemory;
+use rad_outside::NoMemory;
 use std::alloc::Global;
 use std::collections::BTreeMap;
 use std::marker::Model;

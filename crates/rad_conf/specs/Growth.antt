@@ -1,6 +1,6 @@
 -- How a tree grows over the marks of its text: a stack of open blocks is folded over them. This project's own.
 use Rattle.std.specs.Prelude.{ℕ, ◌+◌, List, [], ◌∷◌, ◌++◌, reverse, Result, Ok, Err}
-use Rattle.rad_edge.specs.declared.files.Place.{Place}
+use Rattle.rad_outside.specs.declared.files.Place.{Place}
 use Rattle.rad_conf.specs.declared.fault.Wrong.{Wrong}
 use Rattle.rad_conf.specs.declared.fault.Wrong.TheVariants as wrong
 use Rattle.rad_conf.specs.declared.fault.ConfFault.{ConfFault}

@@ -2,7 +2,7 @@
 
 ghost use Rattle.std.specs.Prelude.{◌≡◌};
 
-use rad_edge::{NoMemory, Place};
+use rad_outside::{NoMemory, Place};
 use std::alloc::{AllocError, AllocFailed};
 use thiserror::Error;
 

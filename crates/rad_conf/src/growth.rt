@@ -11,7 +11,7 @@ ghost use Rattle.rad_conf.specs.Growth.{place_at, fault_of, growth_of};
 use crate::fault::{ConfFault, Wrong};
 use crate::mark::Mark;
 use crate::tree::{Branch, Conf, Item, Node, Word};
-use rad_edge::{NoMemory, Octets, Place};
+use rad_outside::{NoMemory, Octets, Place};
 use sqlite_items::Items;
 use std::alloc::Global;
 use std::mem;

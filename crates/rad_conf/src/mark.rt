@@ -8,7 +8,7 @@ use crate::fault::{MarkError, Wrong};
 use crate::sign::{Sign, sign_at};
 use crate::tree::{Item, Word};
 use crate::word::{after_blanks, comment_at, is_condition, word_at};
-use rad_edge::Octets;
+use rad_outside::Octets;
 use std::alloc::Global;
 
 /// What stands next in a text.

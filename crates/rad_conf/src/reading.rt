@@ -2,8 +2,8 @@
 
 ghost use Rattle.std.specs.Prelude.{◌≡◌, ◌≤◌, length, IfOk};
 ghost use Rattle.std.specs.String.{string_bytes};
-ghost use Rattle.rad_edge.specs.Telling.{Tells, Counts};
-ghost use Rattle.rad_edge.specs.Files.{octets_at};
+ghost use Rattle.rad_outside.specs.Telling.{Tells, Counts};
+ghost use Rattle.rad_outside.specs.Files.{octets_at};
 ghost use Rattle.rad_conf.specs.Answers.{IsAnswer, IsTextAnswer};
 ghost use Rattle.rad_conf.specs.Conf.{conf_of, conf_at, path_of};
 
@@ -11,7 +11,7 @@ use crate::fault::{ConfFault, MarkError};
 use crate::growth::{Growth, place_at};
 use crate::mark::mark_at;
 use crate::tree::Conf;
-use rad_edge::{Files, Found};
+use rad_outside::{Files, Found};
 use std::alloc::{AllocError, Global};
 
 /// The octets that a configuration has at most: 4 MiB.

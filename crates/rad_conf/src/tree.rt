@@ -3,7 +3,7 @@
 ghost use Rattle.std.specs.Prelude.{◌≡◌, [], ◌∷◌, ◌++◌, OnOk, OnErr};
 ghost use Rattle.rad_conf.specs.Tree.{body_of};
 
-use rad_edge::{NoMemory, Octets, Place};
+use rad_outside::{NoMemory, Octets, Place};
 use sqlite_items::Items;
 use std::alloc::Global;
 use std::marker::Model;

@@ -7,7 +7,7 @@ ghost use Rattle.rad_conf.specs.Marks.{Gives};
 use crate::fault::{MarkError, Wrong};
 use crate::sign::sign_at;
 use crate::tree::{Quote, Word};
-use rad_edge::Octets;
+use rad_outside::Octets;
 use std::alloc::Global;
 
 /// The length of the bare word at the front.

@@ -1,6 +1,6 @@
 -- The entries of a history: what was asked of the core, and what it answered. This project's own.
 use Rattle.std.specs.Prelude.{ℕ, List, Result}
-use Rattle.rad_edge.specs.declared.listen.Listen.{Listen}
+use Rattle.rad_outside.specs.declared.listen.Listen.{Listen}
 use Rattle.rad_core.specs.declared.arrival.Arrived.{Arrived}
 use Rattle.rad_core.specs.declared.ending.Ending.{Ending}
 use Rattle.rad_core.specs.declared.installed.Installed.{Installed}

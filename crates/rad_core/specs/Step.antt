@@ -1,7 +1,7 @@
 -- Which entries may come next, and the state after them. This project's own; requests after RFC 2865 section 2.
 use Rattle.std.specs.Prelude.{ℕ, ◌≡◌, ◌+◌, ◌⊎◌, List, [], ◌∷◌, Option, Some, None, Result, Ok, Err, Bool, true, if◌then◌else◌, All, Contains}
-use Rattle.rad_edge.specs.declared.listen.Listen.{Listen}
-use Rattle.rad_edge.specs.declared.listen.ListenKind.TheVariants.{Auth, Acct, Control}
+use Rattle.rad_outside.specs.declared.listen.Listen.{Listen}
+use Rattle.rad_outside.specs.declared.listen.ListenKind.TheVariants.{Auth, Acct, Control}
 use Rattle.rad_wire.specs.declared.cause.DropCause.{DropCause}
 use Rattle.rad_wire.specs.Packet.{packet_of}
 use Rattle.rad_wire.specs.Authentic.{IsFirstCause, IsAuthentic}

@@ -1,7 +1,7 @@
 -- What a history says of one worker. This project's own.
 use Rattle.std.specs.Prelude.{ℕ, ◌≡◌, ◌==◌, ◌+◌, length, List, [], ◌∷◌, ◌++◌, filter, if◌then◌else◌, Bool, true, false, not, IsTrue, Option, Some, None}
 use Rattle.std.specs.List.{AllByRecursion}
-use Rattle.rad_edge.specs.declared.listen.Peer.{Peer}
+use Rattle.rad_outside.specs.declared.listen.Peer.{Peer}
 use Rattle.rad_core.specs.declared.arrival.Arrived.{Arrived}
 use Rattle.rad_core.specs.declared.ending.Ending.{Ending}
 use Rattle.rad_core.specs.declared.ending.Ending.TheVariants.{Sent, Withheld, OutOfMemory}

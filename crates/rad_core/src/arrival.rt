@@ -1,7 +1,7 @@
 ghost use Rattle.std.specs.Prelude.{◌≡◌, IfOk};
 ghost use Rattle.rad_core.specs.Answers.{arrived_of};
 
-use rad_edge::{ListenKind, NoMemory, Octets, Peer};
+use rad_outside::{ListenKind, NoMemory, Octets, Peer};
 use std::alloc::Global;
 
 /// A datagram that came in: the worker that took it, its listener's number, kind and server, its source, its octets,

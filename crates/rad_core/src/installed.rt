@@ -1,4 +1,4 @@
-use rad_edge::Octets;
+use rad_outside::Octets;
 
 /// What became of a load.
 #[derive(Debug, Drop)]

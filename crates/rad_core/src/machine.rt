@@ -2,7 +2,7 @@ ghost use Rattle.std.specs.Prelude.{◌≤◌};
 
 use crate::policy::Policy;
 use crate::row::Row;
-use rad_edge::Octets;
+use rad_outside::Octets;
 use std::alloc::Global;
 use std::sync::Arc;
 

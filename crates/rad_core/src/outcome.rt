@@ -1,4 +1,4 @@
-use rad_edge::Octets;
+use rad_outside::Octets;
 use std::sync::Arc;
 
 /// What a policy gave for a request: a reply of at most 4,096 octets, none, or want of memory.

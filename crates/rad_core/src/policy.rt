@@ -1,15 +1,15 @@
 ghost use Rattle.std.specs.Prelude.{◌≡◌, ◌≤◌, Err};
 ghost use Rattle.std.specs.Option.{option_copied};
-ghost use Rattle.rad_edge.specs.Telling.{Tells, Counts};
-ghost use Rattle.rad_edge.specs.Files.{begun};
-ghost use Rattle.rad_edge.specs.declared.listen.ListenKind.TheVariants.{Auth};
+ghost use Rattle.rad_outside.specs.Telling.{Tells, Counts};
+ghost use Rattle.rad_outside.specs.Files.{begun};
+ghost use Rattle.rad_outside.specs.declared.listen.ListenKind.TheVariants.{Auth};
 ghost use Rattle.rad_core.specs.Policy.{Meaning, IsBuilt};
 ghost use Rattle.rad_core.specs.Step.{IsAuthenticUnder};
 ghost use Rattle.rad_core.specs.Answers.{arrived_of, GivesOutcome, FitsDatagram};
 
 use crate::arrival::Arrival;
 use crate::outcome::Outcome;
-use rad_edge::{Files, Shelf};
+use rad_outside::{Files, Shelf};
 use rad_wire::Client;
 use std::alloc::Global;
 

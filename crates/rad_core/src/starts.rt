@@ -1,5 +1,5 @@
 ghost use Rattle.std.specs.Prelude.{◌≡◌, ◌<◌, ◌^◌, ◌++◌, ◌∷◌, [], ◌≤◌, IsSome, IsNone, IsOk, Some, OnOk, OnErr, IfOk, IfErr};
-ghost use Rattle.rad_edge.specs.declared.listen.ListenKind.TheVariants.{Auth};
+ghost use Rattle.rad_outside.specs.declared.listen.ListenKind.TheVariants.{Auth};
 ghost use Rattle.rad_core.specs.State.{at_moment};
 ghost use Rattle.rad_core.specs.Entry.{Start};
 ghost use Rattle.rad_core.specs.Step.{Step, IsNew, IsDroppedFor, IsTaken, Judges};
@@ -11,7 +11,7 @@ use crate::machine::Core;
 use crate::policy::Policy;
 use crate::row::Row;
 use crate::started::{Started, Ticket};
-use rad_edge::NoMemory;
+use rad_outside::NoMemory;
 use rad_wire::{DropCause, check};
 use std::sync::Arc;
 

@@ -2,10 +2,10 @@
 use Rattle.std.proofs.Common.{◌≡◌, ℕ, zero, suc, ◌+◌, ◌-◌, ◌≢◌, Bool, true, false, List, [], ◌∷◌, Option, Some, None, Result, Ok, Err, length, refl, sym, ap, subst, ◌∙◌, arith}
 use Rattle.std.specs.Str.{IsUtf8, is_utf8}
 use Rattle.std.proofs.lemmas.Str.{IsUtf8-from_is_utf8, is_utf8-from_IsUtf8}
-use Rattle.rad_edge.specs.declared.files.Place.{Place}
+use Rattle.rad_outside.specs.declared.files.Place.{Place}
 use Rattle.std.proofs.lemmas.Bool.{cond-true, cond-false}
-use Rattle.rad_edge.specs.Files.{File, FilesTold, octets_at}
-use Rattle.rad_edge.specs.Telling.{Tells}
+use Rattle.rad_outside.specs.Files.{File, FilesTold, octets_at}
+use Rattle.rad_outside.specs.Telling.{Tells}
 use Rattle.rad_dict.specs.declared.fault.DictFault.{DictFault}
 use Rattle.rad_dict.specs.declared.fault.DictFault.TheVariants as fault
 use Rattle.rad_dict.specs.declared.reading.Reading.{Reading}

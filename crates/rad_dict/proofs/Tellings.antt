@@ -1,6 +1,6 @@
 -- What devices tell over several calls.
 use Rattle.std.proofs.Common.{Option, Some, None}
-use Rattle.rad_edge.specs.Telling.{Tells}
+use Rattle.rad_outside.specs.Telling.{Tells}
 
 -- from one call to the next
 pub Tells-trans : {T : Type 0} {R S : T → T → Type 0} (Q : T → T → Type 0) (a b c : Option T) → ((x y z : T) → R x y → S y z → Q x z) → Tells a b R → Tells b c S → Tells a c Q

@@ -2,8 +2,8 @@
 -- limits, and the order of faults, are this project's own.
 use Rattle.std.specs.Prelude.{ℕ, zero, suc, ◌+◌, List, [], ◌∷◌, length, drop, Option, Some, None, Result, Ok, Err, nat_lt, if◌then◌else◌}
 use Rattle.std.specs.Str.{is_utf8}
-use Rattle.rad_edge.specs.declared.files.Place.{Place}
-use Rattle.rad_edge.specs.Files.{File, octets_at}
+use Rattle.rad_outside.specs.declared.files.Place.{Place}
+use Rattle.rad_outside.specs.Files.{File, octets_at}
 use Rattle.rad_dict.specs.declared.fault.DictFault.{DictFault}
 use Rattle.rad_dict.specs.declared.fault.DictFault.TheVariants as fault
 use Rattle.rad_dict.specs.declared.reading.Reading.{Reading}

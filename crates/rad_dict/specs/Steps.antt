@@ -1,7 +1,7 @@
 -- What one line of a dictionary file does: it makes something known, or includes a file. After the manual page dictionary(5) of
 -- FreeRADIUS.
 use Rattle.std.specs.Prelude.{ℕ, suc, ◌==◌, List, [], ◌∷◌, ◌++◌, take, slice_index, Option, Some, None, Result, Ok, Err, if◌then◌else◌}
-use Rattle.rad_edge.specs.declared.files.Place.{Place}
+use Rattle.rad_outside.specs.declared.files.Place.{Place}
 use Rattle.rad_dict.specs.declared.fault.DictFault.{DictFault}
 use Rattle.rad_dict.specs.declared.fault.DictFault.TheVariants as fault
 use Rattle.rad_dict.specs.declared.fault.Wrong.{Wrong}

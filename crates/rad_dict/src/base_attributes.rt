@@ -8,7 +8,7 @@ ghost use Rattle.rad_dict.specs.Readings.{is_base};
 
 use crate::AttrDef;
 use crate::indexed_rows::IndexedRows;
-use rad_edge::{NoMemory, Octets};
+use rad_outside::{NoMemory, Octets};
 use rad_tables::{AttrId, Kind, NameRow, Names, Space, names};
 use std::alloc::Global;
 

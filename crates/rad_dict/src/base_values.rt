@@ -8,7 +8,7 @@ ghost use Rattle.rad_dict.specs.Rows.{values_of};
 
 use crate::ValueDef;
 use crate::indexed_rows::IndexedRows;
-use rad_edge::{NoMemory, Octets};
+use rad_outside::{NoMemory, Octets};
 use rad_tables::{AttrId, NameRow, Names, Space, names};
 use std::alloc::Global;
 

@@ -1,4 +1,4 @@
-use rad_edge::Octets;
+use rad_outside::Octets;
 use rad_tables::{AttrId, Kind};
 
 /// An attribute's definition: which it is, what its values are, and its name as it is written.

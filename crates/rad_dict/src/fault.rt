@@ -2,7 +2,7 @@
 
 ghost use Rattle.std.specs.Prelude.{◌≡◌};
 
-use rad_edge::{NoMemory, Place};
+use rad_outside::{NoMemory, Place};
 use thiserror::Error;
 
 /// The first fault of a dictionary's files, in reading order. Lines count from 1; line 0 is a file as a

@@ -1,7 +1,7 @@
 //! Dictionary files that are read, with the files that they include.
 
 ghost use Rattle.std.specs.Prelude.{◌≡◌, ◌≢◌, ◌<◌, ◌≤◌, Some, length, OnOk};
-ghost use Rattle.rad_edge.specs.Telling.{Tells, Counts};
+ghost use Rattle.rad_outside.specs.Telling.{Tells, Counts};
 ghost use Rattle.rad_dict.specs.Answers.{IsAnswer};
 ghost use Rattle.rad_dict.specs.Steps.{folder};
 ghost use Rattle.rad_dict.specs.Includes.{counted, ended, source_at, include_read, text_read, last_part, dict_from, dict_of};
@@ -11,7 +11,7 @@ use crate::fault::DictFault;
 use crate::reading::Reading;
 use crate::step::{Step, folder_len, joined, place_at, step_of};
 use crate::text_lines::first_line;
-use rad_edge::{Files, Found, Octets, Place};
+use rad_outside::{Files, Found, Octets, Place};
 use std::alloc::Global;
 use std::str;
 

@@ -11,7 +11,7 @@ use crate::index::Index;
 use crate::keys::{attr_key, key_with, name_key};
 use crate::search::{attr_at, attr_named_at, value_named_at, value_numbered_at};
 use crate::{AttrDef, ValueDef};
-use rad_edge::NoMemory;
+use rad_outside::NoMemory;
 use rad_tables::AttrId;
 use std::alloc::Global;
 use std::marker::Model;

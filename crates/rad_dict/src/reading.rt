@@ -17,7 +17,7 @@ use crate::line::Statement;
 use crate::search::is_named;
 use crate::vendors::{Vendor, Vendors};
 use crate::{AttrDef, Dict, ValueDef};
-use rad_edge::{NoMemory, Octets};
+use rad_outside::{NoMemory, Octets};
 use rad_tables::{AttrId, Kind, Space};
 use std::alloc::Global;
 

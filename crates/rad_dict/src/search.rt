@@ -8,7 +8,7 @@ ghost use Rattle.rad_dict.specs.Definitions.{is_name_of, is_number_of};
 ghost use Rattle.rad_dict.specs.Search.{found_at};
 
 use crate::{AttrDef, ValueDef};
-use rad_edge::Octets;
+use rad_outside::Octets;
 use rad_tables::AttrId;
 
 pub fn is_named(text: &Octets, name: &[u8]) -> bool

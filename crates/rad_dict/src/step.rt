@@ -7,7 +7,7 @@ ghost use Rattle.rad_dict.specs.Steps.{place_at, fault_of, beside, folder_len, j
 use crate::fault::{DictFault, LineFault, Wrong};
 use crate::line::{Line, line_at};
 use crate::reading::Reading;
-use rad_edge::{NoMemory, Octets, Place};
+use rad_outside::{NoMemory, Octets, Place};
 use std::alloc::Global;
 
 /// What a line does: reading goes on with what is known then, or first with a file, by the place of its

@@ -9,7 +9,7 @@ ghost use Rattle.rad_dict.specs.Readings.{vendor_named};
 use crate::index::Index;
 use crate::keys::name_key;
 use crate::search::is_named;
-use rad_edge::{NoMemory, Octets};
+use rad_outside::{NoMemory, Octets};
 use std::alloc::Global;
 use std::marker::Model;
 

@@ -2,7 +2,7 @@
 use Rattle.std.proofs.Common.{◌≡◌, ℕ, ◌+◌, ◌-◌, ◌^◌, ◌++◌, Bool, true, false, List, [], ◌∷◌, Some, None, if◌then◌else◌, nat_lt, refl, arith}
 use Rattle.std.proofs.lemmas.List.FromFn.{map-range_with_len_more}
 use Rattle.std.proofs.lemmas.Bool.Decides.{nat_tests}
-use Rattle.rad_edge.specs.Telling.{Tells}
+use Rattle.rad_outside.specs.Telling.{Tells}
 use Rattle.rad_edge.specs.Memory.{risen}
 use Rattle.rad_edge.specs.MemList.{number_at, given, told_by}
 

@@ -4,7 +4,7 @@ use Rattle.std.specs.declared.net.socket_addr.SocketAddr.{SocketAddr}
 use Rattle.std.specs.declared.net.socket_addr.SocketAddr.TheVariants as socket
 use Rattle.std.specs.Net.Addr.{ipv4_bits}
 use Rattle.std.specs.Net.Socket.{v4_ip, v4_port}
-use Rattle.rad_edge.specs.declared.listen.Peer.{Peer}
+use Rattle.rad_outside.specs.declared.listen.Peer.{Peer}
 
 -- The peer at an address of IPv4. An address of IPv6 has none.
 abbrev pub peer_at : SocketAddr → Option Peer

@@ -1,9 +1,9 @@
-pub mod Telling
-pub mod Files
-pub mod Wire
-pub mod Shelf
-pub mod Sink
-pub mod Crew
+pub use Rattle.rad_outside.specs.Telling
+pub use Rattle.rad_outside.specs.Files
+pub use Rattle.rad_outside.specs.Wire
+pub use Rattle.rad_outside.specs.Shelf
+pub use Rattle.rad_outside.specs.Sink
+pub use Rattle.rad_outside.specs.Crew
 pub mod Memory
 pub mod Failing
 pub mod MemSink

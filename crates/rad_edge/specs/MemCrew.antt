@@ -3,11 +3,11 @@ use Rattle.std.specs.Prelude.{ℕ, ◌≡◌, ◌++◌, List, [], ◌∷◌, Boo
 use Rattle.std.specs.Borrow.{Bor}
 use Rattle.rad_edge.specs.Memory.{risen}
 use Rattle.rad_edge.specs.Failing.{Plan, fails_next, called}
-use Rattle.rad_edge.specs.Crew.{Handed, handed_by}
-use Rattle.rad_edge.specs.declared.crew.Kit.{Kit}
-use Rattle.rad_edge.specs.declared.listen.Listen.{Listen}
-use Rattle.rad_edge.specs.declared.fault.KitFault.{KitFault}
-use Rattle.rad_edge.specs.declared.fault.KitFault.TheVariants as fault
+use Rattle.rad_outside.specs.Crew.{Handed, handed_by}
+use Rattle.rad_outside.specs.declared.crew.Kit.{Kit}
+use Rattle.rad_outside.specs.declared.listen.Listen.{Listen}
+use Rattle.rad_outside.specs.declared.fault.KitFault.{KitFault}
+use Rattle.rad_outside.specs.declared.fault.KitFault.TheVariants as fault
 
 -- The kits that it has left, in order, those that it handed out, in order, its count of faults, and which calls are to fail.
 pub record CrewState (W S K U G : Type 0) : Type 0 where

@@ -2,9 +2,9 @@
 use Rattle.std.specs.Prelude.{ℕ, ◌-◌, List, [], map, drop, slice_index_or}
 use Rattle.rad_edge.specs.Memory.{risen}
 use Rattle.rad_edge.specs.Failing.{Plan, called}
-use Rattle.rad_edge.specs.Files.{File, FilesTold, begun}
-use Rattle.rad_edge.specs.declared.files.Found.{Found}
-use Rattle.rad_edge.specs.declared.files.Found.TheVariants as found
+use Rattle.rad_outside.specs.Files.{File, FilesTold, begun}
+use Rattle.rad_outside.specs.declared.files.Found.{Found}
+use Rattle.rad_outside.specs.declared.files.Found.TheVariants as found
 
 -- What they tell, their count of faults, and which reads are to fail.
 pub record FilesState : Type 0 where

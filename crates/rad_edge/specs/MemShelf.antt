@@ -3,8 +3,8 @@ use Rattle.std.specs.Prelude.{ℕ, ◌≡◌, ◌-◌, ◌++◌, ◌⊎◌, min,
 use Rattle.std.specs.Option.{option_map}
 use Rattle.rad_edge.specs.Memory.{faults_after}
 use Rattle.rad_edge.specs.Failing.{Plan, next_cut, called}
-use Rattle.rad_edge.specs.declared.shelf.Append.{Append}
-use Rattle.rad_edge.specs.declared.fault.Failed.{Failed}
+use Rattle.rad_outside.specs.declared.shelf.Append.{Append}
+use Rattle.rad_outside.specs.declared.fault.Failed.{Failed}
 
 -- What it tells, its count of faults, and which appends are to fail.
 pub record ShelfState : Type 0 where

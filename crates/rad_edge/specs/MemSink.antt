@@ -3,7 +3,7 @@ use Rattle.std.specs.Prelude.{ℕ, ◌++◌, List, Option, None, Result, Ok, Err
 use Rattle.std.specs.Option.{option_map}
 use Rattle.rad_edge.specs.Memory.{risen}
 use Rattle.rad_edge.specs.Failing.{Plan, fails_next, called}
-use Rattle.rad_edge.specs.declared.fault.Failed.{Failed}
+use Rattle.rad_outside.specs.declared.fault.Failed.{Failed}
 
 -- What it tells, its count of faults, and which writes are to fail.
 pub record SinkState : Type 0 where

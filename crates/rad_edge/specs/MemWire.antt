@@ -3,11 +3,11 @@ use Rattle.std.specs.Prelude.{ℕ, ◌≡◌, ◌++◌, ◌⊎◌, List, [], ◌
 use Rattle.std.specs.Option.{option_map}
 use Rattle.rad_edge.specs.Memory.{risen, faults_after}
 use Rattle.rad_edge.specs.Failing.{Plan, fails_next, called}
-use Rattle.rad_edge.specs.Wire.{WireTold}
-use Rattle.rad_edge.specs.declared.fault.Failed.{Failed}
-use Rattle.rad_edge.specs.declared.listen.Peer.{Peer}
-use Rattle.rad_edge.specs.declared.wire.Heard.{Heard}
-use Rattle.rad_edge.specs.declared.wire.Heard.TheVariants as heard
+use Rattle.rad_outside.specs.Wire.{WireTold}
+use Rattle.rad_outside.specs.declared.fault.Failed.{Failed}
+use Rattle.rad_outside.specs.declared.listen.Peer.{Peer}
+use Rattle.rad_outside.specs.declared.wire.Heard.{Heard}
+use Rattle.rad_outside.specs.declared.wire.Heard.TheVariants as heard
 use Rattle.rad_edge.specs.declared.mem.wire.Cue.{Cue}
 use Rattle.rad_edge.specs.declared.mem.wire.Cue.TheVariants as cue
 

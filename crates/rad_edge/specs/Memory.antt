@@ -1,6 +1,6 @@
 -- What the forms in memory have in common. This project's own.
 use Rattle.std.specs.Prelude.{ℕ, ◌+◌, ◌-◌, ◌^◌, min, Bool, true, false, Option, Some, None, Result, Ok, Err}
-use Rattle.rad_edge.specs.declared.fault.Failed.{Failed}
+use Rattle.rad_outside.specs.declared.fault.Failed.{Failed}
 
 -- What a form tells while its record is whole. From the first want of memory on it tells nothing.
 abbrev pub told_while : {T : Type 0} → Bool → T → Option T

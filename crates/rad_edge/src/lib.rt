@@ -1,32 +1,16 @@
-//! What lies outside the server, as traits with a written meaning: files, wires, shelves, sinks, clocks, luck,
-//! gates and the crew that hands them out, with their forms in memory and thin adapters to the host.
-//! The one model is what a device tells: a ghost member that is optional, so that a device of the host tells
-//! nothing and one in memory tells all; beside it each device counts its faults.
-//! Everything above is generic over these traits and reaches the outside through them alone; nothing here knows RADIUS.
+//! The outside's traits with two families of forms: those in memory, which tell all that they are asked, and thin adapters
+//! to the host, which tell nothing.
+//! Its one model is that of `rad_outside`, whose traits and types it passes on; a form in memory shows besides what it holds
+//! and which of its calls are to fail.
+//! Programs and tests stand above it; libraries need the traits alone.
 #![tactic(auto)]
 
-mod clock;
-mod crew;
-mod fault;
-mod files;
-mod gate;
 mod host;
-mod listen;
 mod mem;
-mod octets;
-mod shelf;
-mod sink;
-mod wire;
 
-pub use clock::{Clock, Luck};
-pub use crew::{Crew, Kit};
-pub use fault::{Failed, KitFault, NoMemory};
-pub use files::{Files, Found, Place};
-pub use gate::{Gate, Point};
 pub use host::{HostClock, HostFiles, HostSink, UdpCrew, UdpWire};
-pub use listen::{Listen, ListenKind, Peer};
 pub use mem::{Cue, ListClock, ListLuck, MemCrew, MemFiles, MemShelf, MemSink, MemWire, OpenGate};
-pub use octets::Octets;
-pub use shelf::{Append, Shelf};
-pub use sink::Sink;
-pub use wire::{Got, Heard, Sent, Wire};
+pub use rad_outside::{
+    Append, Clock, Crew, Failed, Files, Found, Gate, Got, Heard, Kit, KitFault, Listen, ListenKind,
+    Luck, NoMemory, Octets, Peer, Place, Point, Sent, Shelf, Sink, Wire,
+};

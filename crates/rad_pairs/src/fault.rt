@@ -2,7 +2,7 @@
 
 ghost use Rattle.std.specs.Prelude.{◌≡◌};
 
-use rad_edge::NoMemory;
+use rad_outside::NoMemory;
 use std::alloc::{AllocError, AllocFailed};
 use thiserror::Error;
 

@@ -14,7 +14,7 @@ use crate::value_reading::value_of;
 use crate::words::{after_blanks, is_separator, name_len, word_at};
 use crate::{Item, ItemList, PairFault, PairOp, ValueFault};
 use rad_dict::Dict;
-use rad_edge::Octets;
+use rad_outside::Octets;
 use rad_value::Value;
 use std::alloc::Global;
 

@@ -8,7 +8,7 @@ ghost use Rattle.rad_pairs.specs.Items.{items_of};
 ghost use Rattle.rad_pairs.specs.ReadingBack.{AreOctets, InRange, IsSpace, HasItsKind, item_of};
 
 use rad_dict::Dict;
-use rad_edge::{NoMemory, Octets};
+use rad_outside::{NoMemory, Octets};
 use rad_tables::{AttrId, Space};
 use rad_value::{Pair, Value};
 use std::alloc::Global;

@@ -8,7 +8,7 @@ use crate::ValueFault;
 use crate::attr_reading::AttrKind;
 use crate::numerals::{digit_value, is_digit, number_at, number_of, numeral_of};
 use rad_dict::{AttrDef, Dict};
-use rad_edge::{NoMemory, Octets};
+use rad_outside::{NoMemory, Octets};
 use rad_tables::{AttrId, Kind};
 use rad_value::Value;
 use std::alloc::Global;

@@ -7,7 +7,7 @@ ghost use Rattle.rad_pairs.specs.Words.{after_blanks, is_separator, ends_word, w
 
 use crate::ValueFault;
 use crate::operators::operator_at;
-use rad_edge::Octets;
+use rad_outside::Octets;
 use std::alloc::Global;
 
 /// What follows the blanks at the front: spaces and tabs.

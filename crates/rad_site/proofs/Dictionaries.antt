@@ -1,7 +1,7 @@
 -- The dictionary of a site, by its file that was read.
 use Rattle.std.proofs.Common.{◌≡◌, ℕ, List, Option, Some, None, Result, Ok, Err, sym, ap, subst, ◌∙◌}
-use Rattle.rad_edge.specs.Files.{File, FilesTold, octets_at}
-use Rattle.rad_edge.specs.Telling.{Tells}
+use Rattle.rad_outside.specs.Files.{File, FilesTold, octets_at}
+use Rattle.rad_outside.specs.Telling.{Tells}
 use Rattle.rad_dict.specs.declared.fault.DictFault.{DictFault}
 use Rattle.rad_dict.specs.declared.fault.DictFault.TheVariants as dict
 use Rattle.rad_dict.specs.Answers.{IsAnswer}

@@ -1,7 +1,7 @@
 -- The modules of a block, one after the other, as a loop reads them.
 use Rattle.std.proofs.Common.{◌≡◌, ℕ, ◌+◌, ◌<◌, ◌≤◌, List, length, get_or, drop, Option, Some, None, Result, Ok, Err, sym, ap, subst, ◌∙◌}
-use Rattle.rad_edge.specs.Files.{FilesTold}
-use Rattle.rad_edge.specs.Telling.{Tells}
+use Rattle.rad_outside.specs.Files.{FilesTold}
+use Rattle.rad_outside.specs.Telling.{Tells}
 use Rattle.rad_dict.specs.Definitions.{Definitions}
 use Rattle.rad_conf.specs.declared.tree.Node.{Node}
 use Rattle.rad_core.specs.Policy.{Sources}

@@ -1,6 +1,6 @@
 -- A site behind the client that was read.
 use Rattle.std.proofs.Common.{◌≡◌, ℕ, List, Option, Result, Ok, sym, ap}
-use Rattle.rad_edge.specs.Files.{FilesTold}
+use Rattle.rad_outside.specs.Files.{FilesTold}
 use Rattle.rad_dict.specs.Definitions.{Definitions}
 use Rattle.rad_conf.specs.declared.tree.Node.{Node}
 use Rattle.rad_wire.specs.declared.client.Client.{Client}

@@ -1,9 +1,9 @@
 -- The users of a file that was read.
 use Rattle.std.specs.Str.{is_utf8}
 use Rattle.std.proofs.Common.{◌≡◌, ℕ, true, cond, List, Option, Some, None, Result, sym, ap, subst, ◌∙◌}
-use Rattle.rad_edge.specs.declared.files.Place.{Place}
-use Rattle.rad_edge.specs.Files.{FilesTold, octets_at}
-use Rattle.rad_edge.specs.Telling.{Tells}
+use Rattle.rad_outside.specs.declared.files.Place.{Place}
+use Rattle.rad_outside.specs.Files.{FilesTold, octets_at}
+use Rattle.rad_outside.specs.Telling.{Tells}
 use Rattle.rad_dict.specs.Definitions.{Definitions}
 use Rattle.mod_files.specs.declared.entry.Entry.{Entry}
 use Rattle.rad_site.specs.declared.fault.BuildFault.{BuildFault}

@@ -2,8 +2,8 @@
 -- which items are built is this project's own.
 use Rattle.std.specs.Prelude.{◌≡◌, ℕ, Bool, [], ◌∷◌, ◌||◌, not, List, Option, Some, None, unwrap_or, Result, Ok, codes}
 use Rattle.std.specs.List.{find, filter}
-use Rattle.rad_edge.specs.declared.files.Place.{Place}
-use Rattle.rad_edge.specs.Files.{octets_at}
+use Rattle.rad_outside.specs.declared.files.Place.{Place}
+use Rattle.rad_outside.specs.Files.{octets_at}
 use Rattle.rad_dict.specs.Definitions.{Definitions}
 use Rattle.rad_dict.specs.Base.{base_definitions}
 use Rattle.rad_dict.specs.Includes.{dict_of}

@@ -1,7 +1,7 @@
 -- The printed text of a fault, `FILE[LINE]: REASON`. The reasons are the names of the variants. This project's own.
 use Rattle.std.specs.Prelude.{ℕ, List, ◌++◌, codes}
 use Rattle.std.specs.Fmt.{decimal}
-use Rattle.rad_edge.specs.declared.files.Place.{Place}
+use Rattle.rad_outside.specs.declared.files.Place.{Place}
 use Rattle.rad_conf.specs.declared.fault.ConfFault.{ConfFault}
 use Rattle.rad_conf.specs.declared.fault.ConfFault.TheVariants as conf
 use Rattle.rad_dict.specs.declared.fault.DictFault.{DictFault}

@@ -3,8 +3,8 @@
 use Rattle.std.specs.Prelude.{ℕ, Bool, true, false, not, ◌&&◌, ◌==◌, List, [], ◌∷◌, length, nat_lt, slice_index, Option, Some, None, Result, Ok, Err, codes, if◌then◌else◌}
 use Rattle.std.specs.Option.{is_none}
 use Rattle.std.specs.Str.{bytes_eq, is_utf8}
-use Rattle.rad_edge.specs.declared.files.Place.{Place}
-use Rattle.rad_edge.specs.Files.{octets_at}
+use Rattle.rad_outside.specs.declared.files.Place.{Place}
+use Rattle.rad_outside.specs.Files.{octets_at}
 use Rattle.rad_dict.specs.Definitions.{Definitions}
 use Rattle.rad_conf.specs.declared.tree.Node.{Node}
 use Rattle.rad_conf.specs.Conf.{path_of}

@@ -3,7 +3,7 @@
 use Rattle.std.specs.Prelude.{◌&&◌, [], Some, None, unwrap_or, Result, Ok, codes, if◌then◌else◌}
 use Rattle.std.specs.Option.{is_none}
 use Rattle.std.specs.Str.{bytes_eq, str_eq_ignore_ascii_case}
-use Rattle.rad_edge.specs.declared.listen.Peer.{Peer}
+use Rattle.rad_outside.specs.declared.listen.Peer.{Peer}
 use Rattle.rad_conf.specs.declared.tree.Node.{Node}
 use Rattle.rad_site.specs.declared.fault.BuildFault.{BuildFault}
 use Rattle.rad_tables.specs.declared.sections.Section.TheVariants.{Authorize}

@@ -1,6 +1,6 @@
 -- A generation of a site: its client, its users and its virtual server, after FreeRADIUS' radiusd.conf(5).
 use Rattle.std.specs.Prelude.{ℕ, List}
-use Rattle.rad_edge.specs.declared.listen.Peer.{Peer}
+use Rattle.rad_outside.specs.declared.listen.Peer.{Peer}
 use Rattle.rad_dict.specs.Definitions.{Definitions}
 use Rattle.rad_wire.specs.declared.client.Client.{Client}
 use Rattle.mod_files.specs.declared.entry.Entry.{Entry}

@@ -10,7 +10,7 @@ use crate::run::run_section;
 use crate::statement::{Statement, Subsection};
 use crate::verdict::Verdict;
 use mod_files::Users;
-use rad_edge::NoMemory;
+use rad_outside::NoMemory;
 use rad_tables::{Code, Section};
 use rad_value::{ListName, Lists};
 use std::alloc::Global;

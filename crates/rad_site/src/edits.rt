@@ -4,7 +4,7 @@ ghost use Rattle.std.specs.Prelude.{◌≡◌, IfOk};
 ghost use Rattle.rad_site.specs.Edits.{with_edit, auth_type_set};
 
 use crate::attributes::AUTH_TYPE;
-use rad_edge::{NoMemory, Octets};
+use rad_outside::{NoMemory, Octets};
 use rad_tables::Code;
 use rad_value::{Edit, EditOp, ListName, Lists, Value};
 use std::alloc::Global;

@@ -5,7 +5,7 @@ ghost use Rattle.std.specs.Prelude.{◌≡◌};
 use mod_files::UsersFault;
 use rad_conf::ConfFault;
 use rad_dict::DictFault;
-use rad_edge::{NoMemory, Octets, Place};
+use rad_outside::{NoMemory, Octets, Place};
 use std::alloc::{AllocError, AllocFailed};
 use thiserror::Error;
 

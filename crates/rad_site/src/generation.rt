@@ -3,7 +3,7 @@ ghost use Rattle.std.specs.Prelude.{◌≡◌};
 use crate::statement::{Statements, Subsections};
 use mod_files::Users;
 use rad_dict::Dict;
-use rad_edge::{Octets, Peer};
+use rad_outside::{Octets, Peer};
 use rad_wire::Client;
 use std::marker::Model;
 

@@ -1,5 +1,5 @@
 ghost use Rattle.std.specs.Prelude.{◌≡◌, [], IfOk};
-ghost use Rattle.rad_edge.specs.declared.listen.ListenKind.TheVariants.{Auth};
+ghost use Rattle.rad_outside.specs.declared.listen.ListenKind.TheVariants.{Auth};
 ghost use Rattle.rad_core.specs.Step.{IsAuthenticUnder};
 ghost use Rattle.rad_core.specs.Answers.{arrived_of, FitsDatagram};
 ghost use Rattle.rad_site.specs.Request.{authorize_of, authenticate_of, secret_of, access_of, IsOutcome};
@@ -13,7 +13,7 @@ use crate::reply::reply_to;
 use crate::statement::{Statement, Subsection};
 use rad_conf::read_conf;
 use rad_core::{Arrival, Outcome, Policy};
-use rad_edge::{Files, NoMemory, Shelf};
+use rad_outside::{Files, NoMemory, Shelf};
 use rad_wire::{Client, check, decode};
 use std::alloc::Global;
 

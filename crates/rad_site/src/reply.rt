@@ -12,7 +12,7 @@ ghost use Rattle.rad_site.specs.Request.{reply_to, IsOutcome};
 use crate::attributes::REPLY_MESSAGE;
 use crate::verdict::Verdict;
 use rad_core::Outcome;
-use rad_edge::NoMemory;
+use rad_outside::NoMemory;
 use rad_value::{ListName, Lists, Pair};
 use rad_wire::{Checked, reply_bytes};
 use std::alloc::Global;

@@ -8,7 +8,7 @@ use crate::judgement::{child_of, default_code, ended_by, heavier_of};
 use crate::pap::pap;
 use crate::statement::Statement;
 use mod_files::Users;
-use rad_edge::NoMemory;
+use rad_outside::NoMemory;
 use rad_tables::{Code, Section};
 use rad_value::Lists;
 use std::alloc::Global;

@@ -1,4 +1,4 @@
-use rad_edge::Octets;
+use rad_outside::Octets;
 use rad_tables::Code;
 use sqlite_items::Items;
 

@@ -1,5 +1,5 @@
 use crate::Value;
-use rad_edge::NoMemory;
+use rad_outside::NoMemory;
 use rad_tables::AttrId;
 use std::alloc::AllocFailed;
 use thiserror::Error;

@@ -8,7 +8,7 @@ ghost use Rattle.rad_value.specs.Edit.{has_attr, edited, edited_by, pair_of, IsF
 
 use crate::edits::{Edit, EditFault, EditOp};
 use crate::{Pair, Value};
-use rad_edge::NoMemory;
+use rad_outside::NoMemory;
 use rad_tables::AttrId;
 use std::alloc::Global;
 

@@ -5,7 +5,7 @@ ghost use Rattle.rad_value.specs.PairLists.{no_pairs, list_of, with_list};
 ghost use Rattle.rad_value.specs.Pairs.{pairs_of, values_of, first_text};
 
 use crate::{Edit, EditFault, ListName, Pair, Updated, Value, listed};
-use rad_edge::NoMemory;
+use rad_outside::NoMemory;
 use rad_tables::AttrId;
 use std::alloc::Global;
 use std::marker::Model;

@@ -2,7 +2,7 @@ ghost use Rattle.std.specs.Prelude.{◌≡◌, IfOk};
 ghost use Rattle.std.specs.Option.{option_copied};
 ghost use Rattle.rad_value.specs.Pairs.{text_of};
 
-use rad_edge::{NoMemory, Octets};
+use rad_outside::{NoMemory, Octets};
 use rad_tables::AttrId;
 use std::alloc::Global;
 

@@ -3,7 +3,7 @@ use Rattle.std.proofs.Common.{◌≡◌, ℕ, zero, suc, refl, sym, ap, ◌∙�
 use Rattle.std.specs.Prelude.{Option}
 use Rattle.std.proofs.lemmas.Bool.{cases_lt}
 use Rattle.std.proofs.lemmas.List.{get_or-take, length-take}
-use Rattle.rad_edge.specs.declared.listen.ListenKind.{ListenKind}
+use Rattle.rad_outside.specs.declared.listen.ListenKind.{ListenKind}
 use Rattle.rad_wire.specs.declared.client.Client.{Client}
 use Rattle.rad_wire.specs.declared.cause.DropCause.{DropCause}
 use Rattle.rad_wire.specs.declared.cause.DropCause.TheVariants.{UnknownClient, Short, BadLength, WrongCode, BadAttribute}

@@ -1,7 +1,7 @@
 -- Which datagrams are taken, and why the others are dropped: RFC 2865 section 3.
 use Rattle.std.specs.Prelude.{ℕ, ◌≡◌, ◌≢◌, ◌<◌, ◌⊎◌, List, length, drop, Option, None}
-use Rattle.rad_edge.specs.declared.listen.ListenKind.{ListenKind}
-use Rattle.rad_edge.specs.declared.listen.ListenKind.TheVariants.{Auth, Acct, Control}
+use Rattle.rad_outside.specs.declared.listen.ListenKind.{ListenKind}
+use Rattle.rad_outside.specs.declared.listen.ListenKind.TheVariants.{Auth, Acct, Control}
 use Rattle.rad_wire.specs.declared.client.Client.{Client}
 use Rattle.rad_wire.specs.declared.cause.DropCause.{DropCause}
 use Rattle.rad_wire.specs.declared.cause.DropCause.TheVariants.{UnknownClient, Short, BadLength, WrongCode, BadAttribute}

@@ -5,7 +5,7 @@ ghost use Rattle.md5.specs.Md5.{md5};
 ghost use Rattle.rad_wire.specs.Hiding.{blocks_of, hidden_blocks, revealed_blocks, xored};
 
 use md5::{Digest, Md5};
-use rad_edge::NoMemory;
+use rad_outside::NoMemory;
 use std::alloc::Global;
 
 /// The octets of a block.

@@ -7,7 +7,7 @@ ghost use Rattle.rad_wire.specs.Octets.{IsChecked};
 use crate::attributes::are_attributes;
 use crate::cause::DropCause;
 use crate::client::Client;
-use rad_edge::ListenKind;
+use rad_outside::ListenKind;
 
 /// A packet that was checked: its code, its identifier, and the datagram's octets up to its Length.
 #[derive(Clone, Copy, Debug)]

@@ -1,4 +1,4 @@
-use rad_edge::Octets;
+use rad_outside::Octets;
 
 /// A client: who may send requests, and the secret shared with it (RFC 2865 section 3).
 #[derive(Debug, Drop)]

@@ -12,7 +12,7 @@ use crate::hiding::{is_hidden_length, revealed};
 use crate::vendor::push_vendor_pairs;
 use crate::wire_value::{kind_of, value_of};
 use rad_dict::Dict;
-use rad_edge::{NoMemory, Octets};
+use rad_outside::{NoMemory, Octets};
 use rad_tables::{AttrId, Space};
 use rad_value::{ListName, Lists, Pair, Value};
 use std::alloc::Global;

@@ -16,7 +16,7 @@ ghost use Rattle.rad_wire.specs.Hiding.{
 };
 
 use crate::block::{block_digest, hide_blocks, reveal_blocks};
-use rad_edge::{NoMemory, Octets};
+use rad_outside::{NoMemory, Octets};
 use std::alloc::{AllocError, Global};
 use thiserror::Error;
 

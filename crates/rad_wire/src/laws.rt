@@ -1,7 +1,7 @@
 //! Laws of packets: facts about the definitions alone, for all lists of octets. The functions do nothing.
 
 ghost use Rattle.std.specs.Prelude.{◌≡◌, ◌≢◌, ◌<◌, ◌≤◌, ◌++◌, [], All, List, Option, ℕ, drop, length};
-ghost use Rattle.rad_edge.specs.declared.listen.ListenKind.{ListenKind};
+ghost use Rattle.rad_outside.specs.declared.listen.ListenKind.{ListenKind};
 ghost use Rattle.rad_dict.specs.Definitions.{Definitions};
 ghost use Rattle.rad_value.specs.declared.values.Pair.{Pair};
 ghost use Rattle.rad_wire.specs.Authentic.{Holds, IsAuthentic, IsFirstCause};

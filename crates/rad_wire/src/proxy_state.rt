@@ -5,7 +5,7 @@ ghost use Rattle.rad_wire.specs.Octets.{IsChecked, proxy_states};
 
 use crate::attributes::{Front, split_front};
 use crate::checking::Checked;
-use rad_edge::NoMemory;
+use rad_outside::NoMemory;
 
 /// The type of Proxy-State.
 const PROXY_STATE: u8 = 33;

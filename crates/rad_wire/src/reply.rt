@@ -8,7 +8,7 @@ use crate::checking::Checked;
 use crate::proxy_state::{proxy_states_len, push_proxy_states};
 use crate::reply_pairs::push_pairs;
 use md5::{Digest, Md5};
-use rad_edge::{NoMemory, Octets};
+use rad_outside::{NoMemory, Octets};
 use rad_value::Lists;
 use std::alloc::Global;
 

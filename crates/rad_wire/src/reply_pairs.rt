@@ -8,7 +8,7 @@ ghost use Rattle.rad_wire.specs.Appended.{IsAppended};
 ghost use Rattle.rad_wire.specs.Reply.{attributes_for, fitting, is_left_out, sent_attributes};
 
 use crate::decoding::VENDOR_SPECIFIC;
-use rad_edge::NoMemory;
+use rad_outside::NoMemory;
 use rad_tables::{AttrId, Space};
 use rad_value::{ListName, Lists, Pair, Value};
 

@@ -8,7 +8,7 @@ ghost use Rattle.rad_wire.specs.Pairs.{of_vendor, pair_of, vendor_of, vendor_pai
 use crate::attributes::{are_attributes, split_front};
 use crate::wire_value::{kind_of, number_of, value_of};
 use rad_dict::Dict;
-use rad_edge::{NoMemory, Octets};
+use rad_outside::{NoMemory, Octets};
 use rad_tables::{AttrId, Space};
 use rad_value::{ListName, Lists, Pair, Value};
 use std::alloc::Global;

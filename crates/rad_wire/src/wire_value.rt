@@ -6,7 +6,7 @@ ghost use Rattle.rad_wire.specs.Pairs.{kind_of};
 ghost use Rattle.rad_wire.specs.Values.{value_of};
 
 use rad_dict::Dict;
-use rad_edge::{NoMemory, Octets};
+use rad_outside::{NoMemory, Octets};
 use rad_tables::{AttrId, Kind};
 use rad_value::Value;
 use std::alloc::Global;

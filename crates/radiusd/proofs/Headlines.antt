@@ -1,9 +1,9 @@
 -- The headline of a run, from what its parts left.
 use Rattle.std.proofs.Common.{ℕ, ◌≡◌, ◌⊎◌, ◌≤◌, ◌++◌, List, [], ◌∷◌, Bool, true, Option, None, Ok, length, inl, inr, refl, ap, sym, ◌∙◌, subst, append-nil, append_assoc, arith}
 use Rattle.std.specs.List.{AllByRecursion}
-use Rattle.rad_edge.specs.declared.crew.Kit.{Kit}
-use Rattle.rad_edge.specs.Crew.{Handed}
-use Rattle.rad_edge.specs.Telling.{Tells}
+use Rattle.rad_outside.specs.declared.crew.Kit.{Kit}
+use Rattle.rad_outside.specs.Crew.{Handed}
+use Rattle.rad_outside.specs.Telling.{Tells}
 use Rattle.rad_core.specs.declared.installed.Installed.{Installed}
 use Rattle.rad_core.specs.State.{ServerState, opening}
 use Rattle.rad_core.specs.Entry.{Entry, Install}

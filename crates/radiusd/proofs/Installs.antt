@@ -1,7 +1,7 @@
 -- The hub's invariant over an install.
 use Rattle.std.proofs.Common.{◌≡◌, ◌+◌, ◌++◌, List, [], ◌∷◌, Bool, IsTrue, Some, Ok, refl, ap, sym, ◌∙◌, subst}
 use Rattle.std.proofs.lemmas.Bool.{false≢true}
-use Rattle.rad_edge.specs.declared.listen.Listen.{Listen}
+use Rattle.rad_outside.specs.declared.listen.Listen.{Listen}
 use Rattle.rad_core.specs.declared.installed.Installed.{Installed}
 use Rattle.rad_core.specs.declared.installed.Installed.TheVariants as installed
 use Rattle.rad_core.specs.State.{ServerState}

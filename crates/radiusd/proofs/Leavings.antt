@@ -1,7 +1,7 @@
 -- How a worker leaves, after what it has served before.
 use Rattle.std.proofs.Common.{◌++◌, List, [], ◌∷◌, Option, Some, None, ap, sym, ◌∙◌, append_assoc, append-nil, IsTrue}
-use Rattle.rad_edge.specs.declared.wire.Heard.TheVariants as heard
-use Rattle.rad_edge.specs.Telling.{Tells}
+use Rattle.rad_outside.specs.declared.wire.Heard.TheVariants as heard
+use Rattle.rad_outside.specs.Telling.{Tells}
 use Rattle.rad_core.specs.Entry.{Look, Stop}
 use Rattle.rad_core.specs.Worker.{Placed, At, OnlyServes, is_service}
 use Rattle.rad_site.specs.declared.fault.BuildFault.{BuildFault}

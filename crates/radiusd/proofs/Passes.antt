@@ -2,13 +2,13 @@
 use Rattle.std.proofs.Common.{ℕ, ◌≡◌, ◌++◌, List, [], ◌∷◌, map, refl, ap, sym, ◌∙◌, subst, append-nil, append_assoc, IsTrue, Option, Some, None}
 use Rattle.std.specs.List.{AllByRecursion}
 use Rattle.std.specs.Option.{option_map}
-use Rattle.rad_edge.specs.declared.crew.Kit.{Kit}
-use Rattle.rad_edge.specs.declared.listen.Listen.{Listen}
-use Rattle.rad_edge.specs.declared.listen.Peer.{Peer}
-use Rattle.rad_edge.specs.declared.wire.Heard.{Heard}
-use Rattle.rad_edge.specs.declared.wire.Heard.TheVariants as heard
-use Rattle.rad_edge.specs.Telling.{Tells}
-use Rattle.rad_edge.specs.Wire.{WireTold}
+use Rattle.rad_outside.specs.declared.crew.Kit.{Kit}
+use Rattle.rad_outside.specs.declared.listen.Listen.{Listen}
+use Rattle.rad_outside.specs.declared.listen.Peer.{Peer}
+use Rattle.rad_outside.specs.declared.wire.Heard.{Heard}
+use Rattle.rad_outside.specs.declared.wire.Heard.TheVariants as heard
+use Rattle.rad_outside.specs.Telling.{Tells}
+use Rattle.rad_outside.specs.Wire.{WireTold}
 use Rattle.rad_core.specs.declared.arrival.Arrived.{Arrived}
 use Rattle.rad_core.specs.declared.seen.Seen.{Seen}
 use Rattle.rad_core.specs.State.{ServerState, opening}

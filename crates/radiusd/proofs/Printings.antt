@@ -2,9 +2,9 @@
 use Rattle.std.proofs.Common.{ℕ, ◌≡◌, ◌≤◌, ◌⊎◌, ◌++◌, take, drop, List, [], Option, Result, Ok, Err, IsErr, inl, inr, refl, ap, sym, ◌∙◌, append-nil, append_assoc, arith}
 use Rattle.std.proofs.lemmas.List.{take-append-drop}
 use Rattle.std.proofs.Math.Seq.{drop-length}
-use Rattle.rad_edge.specs.declared.fault.Failed.{Failed}
-use Rattle.rad_edge.specs.Sink.{Writes}
-use Rattle.rad_edge.specs.Telling.{Tells, Rose}
+use Rattle.rad_outside.specs.declared.fault.Failed.{Failed}
+use Rattle.rad_outside.specs.Sink.{Writes}
+use Rattle.rad_outside.specs.Telling.{Tells, Rose}
 use Rattle.radiusd.specs.declared.status.Status.{Status}
 use Rattle.radiusd.specs.declared.status.Status.TheVariants as status
 use Rattle.radiusd.specs.Course.{IsExcused}

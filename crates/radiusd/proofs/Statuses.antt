@@ -1,8 +1,8 @@
 -- What a fault of a site says of the status that a run ends with.
 use Rattle.std.proofs.Common.{ℕ, ◌≡◌, ◌⊎◌, List, Option, Some, None, Ok, Err, inl, inr, refl, ap, sym, ◌∙◌, subst}
-use Rattle.rad_edge.specs.declared.crew.Kit.{Kit}
-use Rattle.rad_edge.specs.Telling.{Tells, Rose}
-use Rattle.rad_edge.specs.Files.{File, FilesTold, begun}
+use Rattle.rad_outside.specs.declared.crew.Kit.{Kit}
+use Rattle.rad_outside.specs.Telling.{Tells, Rose}
+use Rattle.rad_outside.specs.Files.{File, FilesTold, begun}
 use Rattle.rad_core.specs.Policy.{IsBuilt}
 use Rattle.rad_site.specs.declared.fault.BuildFault.{BuildFault}
 use Rattle.rad_site.specs.declared.fault.BuildFault.TheVariants as fault

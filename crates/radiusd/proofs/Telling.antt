@@ -3,10 +3,10 @@ use Rattle.std.proofs.Common.{◌≡◌, ◌++◌, List, [], ◌∷◌, map, Opt
 use Rattle.std.specs.List.{AllByRecursion}
 use Rattle.std.specs.Option.{option_map}
 use Rattle.std.proofs.lemmas.List.{map-append}
-use Rattle.rad_edge.specs.declared.wire.Heard.{Heard}
-use Rattle.rad_edge.specs.declared.wire.Heard.TheVariants as heard
-use Rattle.rad_edge.specs.Telling.{Tells}
-use Rattle.rad_edge.specs.Wire.{WireTold}
+use Rattle.rad_outside.specs.declared.wire.Heard.{Heard}
+use Rattle.rad_outside.specs.declared.wire.Heard.TheVariants as heard
+use Rattle.rad_outside.specs.Telling.{Tells}
+use Rattle.rad_outside.specs.Wire.{WireTold}
 use Rattle.rad_core.specs.Worker.{Answer, Placed, asked}
 use Rattle.rad_core.proofs.Histories.{asked-append}
 use Rattle.rad_site.specs.declared.fault.BuildFault.{BuildFault}

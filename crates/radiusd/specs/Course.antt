@@ -1,11 +1,11 @@
 -- How far a run of the server came, and what it prints, adds and answers there. This project's own, after FreeRADIUS'
 -- radiusd(8).
 use Rattle.std.specs.Prelude.{ℕ, ◌≡◌, ◌⊎◌, ◌==◌, ◌≤◌, ◌++◌, List, [], ◌∷◌, length, map, Option, Some, None, Ok, Err, if◌then◌else◌}
-use Rattle.rad_edge.specs.declared.crew.Kit.{Kit}
-use Rattle.rad_edge.specs.declared.listen.Listen.{Listen}
-use Rattle.rad_edge.specs.Crew.{Handed}
-use Rattle.rad_edge.specs.Files.{FilesTold, begun}
-use Rattle.rad_edge.specs.Telling.{Tells, Rose}
+use Rattle.rad_outside.specs.declared.crew.Kit.{Kit}
+use Rattle.rad_outside.specs.declared.listen.Listen.{Listen}
+use Rattle.rad_outside.specs.Crew.{Handed}
+use Rattle.rad_outside.specs.Files.{FilesTold, begun}
+use Rattle.rad_outside.specs.Telling.{Tells, Rose}
 use Rattle.rad_core.specs.declared.installed.Installed.{Installed}
 use Rattle.rad_core.specs.Entry.{Entry, Install}
 use Rattle.rad_core.specs.Policy.{IsBuilt}

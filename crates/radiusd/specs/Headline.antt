@@ -1,10 +1,10 @@
 -- The headline: what a run of the server promises. This project's own.
 use Rattle.std.specs.Prelude.{ℕ, ◌≡◌, ◌⊎◌, ◌<◌, ◌+◌, ◌++◌, List, [], ◌∷◌, length, map, Option}
 use Rattle.std.specs.List.{AllByRecursion}
-use Rattle.rad_edge.specs.declared.crew.Kit.{Kit}
-use Rattle.rad_edge.specs.Crew.{Handed}
-use Rattle.rad_edge.specs.Files.{FilesTold}
-use Rattle.rad_edge.specs.Telling.{Tells}
+use Rattle.rad_outside.specs.declared.crew.Kit.{Kit}
+use Rattle.rad_outside.specs.Crew.{Handed}
+use Rattle.rad_outside.specs.Files.{FilesTold}
+use Rattle.rad_outside.specs.Telling.{Tells}
 use Rattle.rad_core.specs.declared.arrival.Arrived.{Arrived}
 use Rattle.rad_core.specs.State.{opening}
 use Rattle.rad_core.specs.Entry.{Entry, worker_of}

@@ -1,8 +1,8 @@
 -- The history that the hub keeps, and the core's state behind it. This project's own.
 use Rattle.std.specs.Prelude.{◌≡◌, ◌⊎◌, ◌++◌, List, [], ◌∷◌, length, map, Ok, Some, Bool, true, IsTrue}
 use Rattle.std.specs.Arc.{arc_value}
-use Rattle.rad_edge.specs.declared.listen.Listen.{Listen}
-use Rattle.rad_edge.specs.declared.listen.ListenKind.TheVariants.{Auth}
+use Rattle.rad_outside.specs.declared.listen.Listen.{Listen}
+use Rattle.rad_outside.specs.declared.listen.ListenKind.TheVariants.{Auth}
 use Rattle.rad_core.specs.declared.installed.Installed.{Installed}
 use Rattle.rad_core.specs.State.{ServerState, opening}
 use Rattle.rad_core.specs.Entry.{Entry, Start, Finish, Install, Look, Stop}

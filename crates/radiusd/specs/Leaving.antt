@@ -1,10 +1,10 @@
 -- How a worker leaves, and what its wire and its entries say then. This project's own.
 use Rattle.std.specs.Prelude.{ℕ, ◌≡◌, ◌≤◌, ◌++◌, List, [], ◌∷◌, Option, Some, None, IsTrue}
 use Rattle.std.specs.List.{AllByRecursion}
-use Rattle.rad_edge.specs.declared.wire.Heard.{Heard}
-use Rattle.rad_edge.specs.declared.wire.Heard.TheVariants as heard
-use Rattle.rad_edge.specs.Telling.{Tells}
-use Rattle.rad_edge.specs.Wire.{WireTold}
+use Rattle.rad_outside.specs.declared.wire.Heard.{Heard}
+use Rattle.rad_outside.specs.declared.wire.Heard.TheVariants as heard
+use Rattle.rad_outside.specs.Telling.{Tells}
+use Rattle.rad_outside.specs.Wire.{WireTold}
 use Rattle.rad_core.specs.declared.seen.Seen.{Seen}
 use Rattle.rad_core.specs.State.{ServerState}
 use Rattle.rad_core.specs.Entry.{Look, Stop}

@@ -1,7 +1,7 @@
 -- The lines that the server prints. The texts are this project's own.
 use Rattle.std.specs.Prelude.{ℕ, ◌/◌, ◌%◌, ◌++◌, List, [], ◌∷◌, codes}
 use Rattle.std.specs.Fmt.{decimal}
-use Rattle.rad_edge.specs.declared.listen.Peer.{Peer}
+use Rattle.rad_outside.specs.declared.listen.Peer.{Peer}
 use Rattle.radiusd.specs.declared.counts.Counts.{Counts}
 
 -- An address in four decimal parts.

@@ -1,6 +1,6 @@
 -- What printing lines leaves in a sink. This project's own.
 use Rattle.std.specs.Prelude.{ℕ, ◌≡◌, ◌⊎◌, ◌++◌, List, [], Option}
-use Rattle.rad_edge.specs.Telling.{Tells, Rose}
+use Rattle.rad_outside.specs.Telling.{Tells, Rose}
 use Rattle.radiusd.specs.declared.status.Status.{Status}
 use Rattle.radiusd.specs.declared.status.Status.TheVariants as status
 

@@ -1,11 +1,11 @@
 -- What serving adds: one datagram's whole way, and a run of the serving loop. This project's own.
 use Rattle.std.specs.Prelude.{ℕ, ◌≡◌, ◌<◌, ◌++◌, List, [], ◌∷◌, Option, Some, None, IsTrue}
 use Rattle.std.specs.List.{AllByRecursion}
-use Rattle.rad_edge.specs.declared.crew.Kit.{Kit}
-use Rattle.rad_edge.specs.declared.listen.Listen.{Listen}
-use Rattle.rad_edge.specs.declared.listen.Peer.{Peer}
-use Rattle.rad_edge.specs.Telling.{Tells}
-use Rattle.rad_edge.specs.Wire.{WireTold}
+use Rattle.rad_outside.specs.declared.crew.Kit.{Kit}
+use Rattle.rad_outside.specs.declared.listen.Listen.{Listen}
+use Rattle.rad_outside.specs.declared.listen.Peer.{Peer}
+use Rattle.rad_outside.specs.Telling.{Tells}
+use Rattle.rad_outside.specs.Wire.{WireTold}
 use Rattle.rad_core.specs.declared.arrival.Arrived.{Arrived}
 use Rattle.rad_core.specs.Entry.{Entry}
 use Rattle.rad_core.specs.Step.{IsLegal}

@@ -1,8 +1,8 @@
 -- What a run's exit status says of its words and of its site. This project's own, after FreeRADIUS' radiusd(8).
 use Rattle.std.specs.Prelude.{ℕ, ◌≡◌, ◌⊎◌, List, Option, Some, Ok, Err}
-use Rattle.rad_edge.specs.declared.crew.Kit.{Kit}
-use Rattle.rad_edge.specs.Telling.{Tells, Rose}
-use Rattle.rad_edge.specs.Files.{FilesTold, begun}
+use Rattle.rad_outside.specs.declared.crew.Kit.{Kit}
+use Rattle.rad_outside.specs.Telling.{Tells, Rose}
+use Rattle.rad_outside.specs.Files.{FilesTold, begun}
 use Rattle.rad_site.specs.declared.fault.BuildFault.{BuildFault}
 use Rattle.rad_site.specs.declared.fault.BuildFault.TheVariants as fault
 use Rattle.radiusd.specs.declared.status.Status.{Status}

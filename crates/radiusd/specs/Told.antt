@@ -3,14 +3,14 @@
 use Rattle.std.specs.Prelude.{ℕ, ◌≡◌, ◌++◌, List, [], ◌∷◌, map, Option, Some, None, Bool}
 use Rattle.std.specs.Option.{option_map}
 use Rattle.std.specs.List.{AllByRecursion}
-use Rattle.rad_edge.specs.declared.crew.Kit.{Kit}
-use Rattle.rad_edge.specs.declared.listen.Listen.{Listen}
-use Rattle.rad_edge.specs.declared.listen.Peer.{Peer}
-use Rattle.rad_edge.specs.declared.wire.Heard.{Heard}
-use Rattle.rad_edge.specs.declared.wire.Heard.TheVariants as heard
-use Rattle.rad_edge.specs.declared.wire.Sent.{Sent}
-use Rattle.rad_edge.specs.Telling.{Tells}
-use Rattle.rad_edge.specs.Wire.{WireTold}
+use Rattle.rad_outside.specs.declared.crew.Kit.{Kit}
+use Rattle.rad_outside.specs.declared.listen.Listen.{Listen}
+use Rattle.rad_outside.specs.declared.listen.Peer.{Peer}
+use Rattle.rad_outside.specs.declared.wire.Heard.{Heard}
+use Rattle.rad_outside.specs.declared.wire.Heard.TheVariants as heard
+use Rattle.rad_outside.specs.declared.wire.Sent.{Sent}
+use Rattle.rad_outside.specs.Telling.{Tells}
+use Rattle.rad_outside.specs.Wire.{WireTold}
 use Rattle.rad_core.specs.declared.arrival.Arrived.{Arrived}
 use Rattle.rad_core.specs.Worker.{Placed, Answer, served, asked, answered, IsClosed, HaveOutcomes}
 use Rattle.rad_site.specs.declared.fault.BuildFault.{BuildFault}

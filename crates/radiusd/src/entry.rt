@@ -1,5 +1,5 @@
 use rad_core::{Arrived, Ending, Installed, Seen, StartAnswer};
-use rad_edge::Listen;
+use rad_outside::Listen;
 use rad_site::{BuildFault, Generation};
 use std::sync::Arc;
 

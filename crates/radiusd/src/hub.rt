@@ -3,7 +3,7 @@ use crate::entry::StoredEntry;
 use crate::room::Room;
 use crate::turn::{Reply, take_turn};
 use rad_core::{Arrival, Core, Seen};
-use rad_edge::{Gate, Listen, NoMemory, Octets, Shelf};
+use rad_outside::{Gate, Listen, NoMemory, Octets, Shelf};
 use rad_site::Generation;
 use std::alloc::Global;
 use std::marker::Model;
@@ -41,7 +41,7 @@ impl<L> Model for Hub<L> {
 
 impl<L: Shelf> Hub<L> {
     ghost use Rattle.std.specs.Prelude.{◌≡◌, ◌≤◌, ◌<◌, ◌^◌, [], length, drop, IfOk, OnOk, OnErr, IsSome, IsUtf8};
-    ghost use Rattle.rad_edge.specs.declared.listen.ListenKind.TheVariants.{Auth};
+    ghost use Rattle.rad_outside.specs.declared.listen.ListenKind.TheVariants.{Auth};
     ghost use Rattle.rad_core.specs.State.{opening};
     ghost use Rattle.rad_core.specs.Entry.{Look, Stop};
     ghost use Rattle.rad_core.specs.Step.{IsLegal};

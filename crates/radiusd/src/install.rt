@@ -2,7 +2,7 @@ ghost use Rattle.std.specs.Prelude.{◌≡◌, IfOk, OnErr};
 ghost use Rattle.radiusd.specs.History.{listener_of, TriesInstall, IsInstalled};
 
 use crate::hub::Hub;
-use rad_edge::{Listen, ListenKind, NoMemory, Octets, Shelf};
+use rad_outside::{Listen, ListenKind, NoMemory, Octets, Shelf};
 use rad_site::Generation;
 use std::alloc::Global;
 use std::sync::Arc;

@@ -5,7 +5,7 @@ ghost use Rattle.std.specs.Fmt.{decimal};
 ghost use Rattle.radiusd.specs.Lines.{dotted, listening_line, counts_line};
 
 use crate::counts::Counts;
-use rad_edge::{NoMemory, Octets, Peer};
+use rad_outside::{NoMemory, Octets, Peer};
 use std::alloc::Global;
 
 /// Adds a number in decimal digits.

@@ -1,9 +1,9 @@
 ghost use Rattle.std.specs.Prelude.{◌≡◌, ◌≤◌, OnOk, IfErr};
-ghost use Rattle.rad_edge.specs.Telling.{Tells, Rose};
+ghost use Rattle.rad_outside.specs.Telling.{Tells, Rose};
 ghost use Rattle.radiusd.specs.Printing.{Prints, PrintsWhole};
 
 use crate::status::Status;
-use rad_edge::Sink;
+use rad_outside::Sink;
 
 /// Prints a line. Where the sink fails a front of it may have been printed.
 pub(crate) fn say<O: Sink>(out: &mut O, line: &[u8]) -> Result<(), Status>

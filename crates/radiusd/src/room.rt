@@ -2,7 +2,7 @@ ghost use Rattle.std.specs.Prelude.{◌≡◌, ◌≤◌, length, vec_len, vec_c
 ghost use Rattle.rad_core.specs.Answers.{arrived_of};
 
 use rad_core::{Arrival, Arrived};
-use rad_edge::{NoMemory, Octets};
+use rad_outside::{NoMemory, Octets};
 use std::alloc::Global;
 
 /// Octets of a datagram, at most.

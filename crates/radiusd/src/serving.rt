@@ -1,5 +1,5 @@
 ghost use Rattle.std.specs.Prelude.{◌≡◌, ◌≤◌, ◌<◌, ◌^◌, length, IsSome, Some};
-ghost use Rattle.rad_edge.specs.declared.listen.ListenKind.TheVariants.{Auth};
+ghost use Rattle.rad_outside.specs.declared.listen.ListenKind.TheVariants.{Auth};
 ghost use Rattle.radiusd.specs.History.{state_after};
 ghost use Rattle.radiusd.specs.Serving.{Serves, GoesOn, left_of, IsCounted};
 
@@ -7,7 +7,7 @@ use crate::hub::Hub;
 use crate::left::Left;
 use crate::room::Room;
 use rad_core::Arrival;
-use rad_edge::{Clock, Gate, Got, Kit, Listen, Luck, Peer, Point, Shelf, Wire};
+use rad_outside::{Clock, Gate, Got, Kit, Listen, Luck, Peer, Point, Shelf, Wire};
 use std::alloc::Global;
 use std::sync::Wait;
 

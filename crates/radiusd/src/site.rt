@@ -1,6 +1,6 @@
 ghost use Rattle.std.specs.Prelude.{◌≡◌, ◌≤◌, ◌⊎◌, ◌++◌, [], drop, Some, IfErr, OnOk, IsTrue};
 ghost use Rattle.std.specs.List.{AllByRecursion};
-ghost use Rattle.rad_edge.specs.Telling.{Tells, Rose};
+ghost use Rattle.rad_outside.specs.Telling.{Tells, Rose};
 ghost use Rattle.radiusd.specs.Course.{Serving, IsExcused, HasDeafWire, closing_lines};
 ghost use Rattle.radiusd.specs.Headline.{Headline};
 ghost use Rattle.radiusd.specs.History.{state_after};
@@ -16,7 +16,7 @@ use crate::lines::{counts_line, listening_line};
 use crate::printing::say;
 use crate::serving::serve;
 use crate::status::Status;
-use rad_edge::{Clock, Crew, Gate, Kit, KitFault, Listen, Luck, Octets, Shelf, Sink, Wire};
+use rad_outside::{Clock, Crew, Gate, Kit, KitFault, Listen, Luck, Octets, Shelf, Sink, Wire};
 use rad_site::Generation;
 use std::alloc::Global;
 use std::sync::Wait;

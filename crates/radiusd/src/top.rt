@@ -1,6 +1,6 @@
 ghost use Rattle.std.specs.Prelude.{◌≡◌, ◌≤◌, ◌↔◌, ◌⊎◌, [], map, string_bytes, None, IfOk, IsTrue};
 ghost use Rattle.std.specs.List.{AllByRecursion};
-ghost use Rattle.rad_edge.specs.Telling.{Tells, Rose};
+ghost use Rattle.rad_outside.specs.Telling.{Tells, Rose};
 ghost use Rattle.radiusd.specs.Course.{HasDeafWire, fault_line};
 ghost use Rattle.radiusd.specs.Headline.{Headline, RunsAs};
 ghost use Rattle.radiusd.specs.History.{state_after};
@@ -14,7 +14,7 @@ use crate::site::serve_site;
 use crate::status::Status;
 use crate::words::{USAGE, folder_of};
 use rad_core::Policy;
-use rad_edge::{Clock, Crew, Files, Gate, Kit, Luck, NoMemory, Octets, Shelf, Sink, Wire};
+use rad_outside::{Clock, Crew, Files, Gate, Kit, Luck, NoMemory, Octets, Shelf, Sink, Wire};
 use rad_site::{BuildFault, Generation, fault_text};
 use std::alloc::Global;
 use std::sync::Wait;

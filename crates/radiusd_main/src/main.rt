@@ -3,7 +3,8 @@
 //! Nothing stands above it.
 #![tactic(auto)]
 
-use rad_edge::{HostFiles, HostSink, MemShelf, NoMemory, Octets, UdpCrew};
+use rad_edge::{HostFiles, HostSink, MemShelf, UdpCrew};
+use rad_outside::{NoMemory, Octets};
 use radiusd::{Hub, radiusd};
 use std::alloc::Global;
 use std::env;

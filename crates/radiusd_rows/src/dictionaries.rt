@@ -3,7 +3,7 @@
 
 use crate::run::{FileText, run_site};
 use crate::serving::{NAS, REQUEST, WORDS, is_answered};
-use rad_edge::NoMemory;
+use rad_outside::NoMemory;
 use std::alloc::Global;
 use std::sync::Wait;
 use std::test::Fail;

@@ -2,7 +2,8 @@
 
 use crate::run::{Memories, Run, crew_of, hub_of, run_over, script_of};
 use crate::serving::{ACCEPT, ACCEPTING, LISTENING, NAS, REQUEST, WORDS, is_answered, is_whole};
-use rad_edge::{MemCrew, MemSink, NoMemory};
+use rad_edge::{MemCrew, MemSink};
+use rad_outside::NoMemory;
 use std::alloc::Global;
 use std::sync::Wait;
 use std::test::Fail;

@@ -1,9 +1,7 @@
 //! A run of the server over devices in memory.
 
-use rad_edge::{
-    Cue, Kit, ListClock, ListLuck, MemCrew, MemFiles, MemShelf, MemSink, MemWire, NoMemory, Octets,
-    OpenGate, Peer, Sent,
-};
+use rad_edge::{Cue, ListClock, ListLuck, MemCrew, MemFiles, MemShelf, MemSink, MemWire, OpenGate};
+use rad_outside::{Kit, NoMemory, Octets, Peer, Sent};
 use radiusd::{Hub, radiusd};
 use std::alloc::Global;
 use std::sync::Wait;

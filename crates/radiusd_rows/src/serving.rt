@@ -1,7 +1,7 @@
 //! Datagrams and their replies.
 
 use crate::run::{Run, run_with};
-use rad_edge::Peer;
+use rad_outside::Peer;
 use std::alloc::Global;
 use std::process::Abort;
 use std::sync::Wait;

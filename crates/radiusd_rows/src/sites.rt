@@ -2,9 +2,8 @@
 //! The expected places are counted from the configurations by hand.
 
 use crate::run::{files_of, hub_of, run_with, words_of};
-use rad_edge::{
-    ListClock, ListLuck, MemCrew, MemFiles, MemShelf, MemSink, MemWire, NoMemory, OpenGate, Peer,
-};
+use rad_edge::{ListClock, ListLuck, MemCrew, MemFiles, MemShelf, MemSink, MemWire, OpenGate};
+use rad_outside::{NoMemory, Peer};
 use radiusd::radiusd;
 use std::alloc::Global;
 use std::sync::Wait;

@@ -1,14 +1,12 @@
 //! The server over real UDP, on one thread.
 
 ghost use Rattle.std.specs.Prelude.{◌≡◌, ◌++◌, ◌∷◌, [], None, Err, IfOk, IfSome, IsSome, IsErr, length, ◌↔◌, if◌then◌else◌, true};
-ghost use Rattle.rad_edge.specs.Telling.{Tells, Counts};
-ghost use Rattle.rad_edge.specs.Wire.{heard_of, FitsBuffer, failures_after, IsEnding};
+ghost use Rattle.rad_outside.specs.Telling.{Tells, Counts};
+ghost use Rattle.rad_outside.specs.Wire.{heard_of, FitsBuffer, failures_after, IsEnding};
 
 use crate::run::{files_of, hub_of, words_of};
-use rad_edge::{
-    Crew, Failed, Got, Kit, KitFault, ListClock, ListLuck, Listen, MemShelf, MemSink, OpenGate,
-    Peer, UdpWire, Wire,
-};
+use rad_edge::{ListClock, ListLuck, MemShelf, MemSink, OpenGate, UdpWire};
+use rad_outside::{Crew, Failed, Got, Kit, KitFault, Listen, Peer, Wire};
 use radiusd::radiusd;
 use std::alloc::Global;
 use std::net::UdpSocket;

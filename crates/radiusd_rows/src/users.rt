@@ -4,7 +4,8 @@
 
 use crate::run::{FileText, crew_of, files_in, hub_of, run_files, run_site};
 use crate::serving::{NAS, REQUEST, WORDS, is_answered, is_whole};
-use rad_edge::{MemSink, NoMemory};
+use rad_edge::MemSink;
+use rad_outside::NoMemory;
 use std::alloc::Global;
 use std::sync::Wait;
 use std::test::Fail;

@@ -8,7 +8,7 @@ mod running;
 mod script;
 mod transcript;
 
-use rad_edge::NoMemory;
+use rad_outside::NoMemory;
 use running::Server;
 use shared_cases::{Form, Tally};
 use std::alloc::Global;

@@ -1,6 +1,7 @@
 //! What a case says of one run of the server.
 
-use rad_edge::{Cue, NoMemory, Octets, Peer};
+use rad_edge::Cue;
+use rad_outside::{NoMemory, Octets, Peer};
 use std::alloc::Global;
 
 /// A file of a map: its path and its octets.

@@ -3,10 +3,8 @@
 use crate::plan::Plan;
 use crate::script::plans_of;
 use crate::transcript::{push_log, push_run};
-use rad_edge::{
-    Kit, ListClock, ListLuck, MemCrew, MemFiles, MemShelf, MemSink, MemWire, NoMemory, Octets,
-    OpenGate,
-};
+use rad_edge::{ListClock, ListLuck, MemCrew, MemFiles, MemShelf, MemSink, MemWire, OpenGate};
+use rad_outside::{Kit, NoMemory, Octets};
 use radiusd::{Hub, radiusd};
 use shared_cases::{Case, Subject};
 use std::alloc::Global;

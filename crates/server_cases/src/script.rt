@@ -1,7 +1,8 @@
 //! A case's fields as runs.
 
 use crate::plan::Plan;
-use rad_edge::{Cue, NoMemory, Octets, Peer};
+use rad_edge::Cue;
+use rad_outside::{NoMemory, Octets, Peer};
 use shared_cases::{Case, decimal, hexadecimal, numbers, words};
 use std::alloc::Global;
 

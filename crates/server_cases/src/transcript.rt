@@ -1,7 +1,8 @@
 //! What runs did, as lines.
 
 use crate::running::MemKit;
-use rad_edge::{Append, MemShelf, MemSink, NoMemory, Peer, Sent};
+use rad_edge::{MemShelf, MemSink};
+use rad_outside::{Append, NoMemory, Peer, Sent};
 use shared_cases::{push_hexadecimal, push_number};
 use std::alloc::Global;
 

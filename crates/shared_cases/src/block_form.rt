@@ -7,7 +7,7 @@
 
 use crate::case::{Case, Field};
 use crate::spelling::{after_word, unescaped};
-use rad_edge::NoMemory;
+use rad_outside::NoMemory;
 use std::alloc::Global;
 
 /// What has been read of a file.

@@ -2,7 +2,7 @@
 
 use crate::case::{Case, Field};
 use crate::spelling::unescaped;
-use rad_edge::NoMemory;
+use rad_outside::NoMemory;
 use std::alloc::Global;
 
 /// The cases of a file of rows. A line that is empty or begins with `#` is none. A line without a tab is a case without

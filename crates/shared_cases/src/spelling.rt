@@ -1,6 +1,6 @@
 //! How octets and numbers are written in a file of cases.
 
-use rad_edge::NoMemory;
+use rad_outside::NoMemory;
 use std::alloc::Global;
 
 /// The value of a hexadecimal digit.

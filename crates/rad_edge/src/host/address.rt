@@ -3,7 +3,7 @@ ghost use Rattle.std.specs.Net.Addr.{IsIpv4OfBits};
 ghost use Rattle.std.specs.Net.Socket.{v4_ip, v4_port};
 ghost use Rattle.rad_edge.specs.Address.{peer_at};
 
-use crate::listen::Peer;
+use rad_outside::Peer;
 use std::net::{Ipv4Addr, SocketAddr, SocketAddrV4};
 
 /// The address of a peer.

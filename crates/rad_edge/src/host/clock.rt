@@ -1,6 +1,6 @@
 ghost use Rattle.std.specs.Prelude.{◌≡◌, None};
 
-use crate::clock::Clock;
+use rad_outside::Clock;
 use std::marker::Model;
 use std::rt;
 

@@ -3,12 +3,8 @@ ghost use Rattle.rad_edge.specs.MemCrew.{IsFresh};
 
 use super::clock::HostClock;
 use super::udp_wire::UdpWire;
-use crate::crew::{Crew, Kit};
-use crate::fault::{KitFault, NoMemory};
-use crate::listen::{Listen, ListenKind, Peer};
 use crate::mem::{ListLuck, MemShelf, OpenGate};
-use crate::octets::Octets;
-use crate::wire::Wire;
+use rad_outside::{Crew, Kit, KitFault, Listen, ListenKind, NoMemory, Octets, Peer, Wire};
 use std::alloc::Global;
 use std::net::Net;
 use std::rt;

@@ -1,7 +1,6 @@
 ghost use Rattle.std.specs.Prelude.{◌≡◌, None};
 
-use crate::files::{Files, Found};
-use crate::octets::Octets;
+use rad_outside::{Files, Found, Octets};
 use std::alloc::Global;
 use std::io::{ErrorKind, Read};
 use std::{fs, io, rt};

@@ -1,7 +1,6 @@
 ghost use Rattle.std.specs.Prelude.{◌≡◌, None};
 
-use crate::fault::Failed;
-use crate::sink::Sink;
+use rad_outside::{Failed, Sink};
 
 /// Standard output.
 #[derive(Drop)]

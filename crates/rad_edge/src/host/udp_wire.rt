@@ -1,10 +1,8 @@
 ghost use Rattle.std.specs.Prelude.{◌≡◌, ◌≢◌, None, false, IfOk, length};
-ghost use Rattle.rad_edge.specs.Wire.{FitsBuffer};
+ghost use Rattle.rad_outside.specs.Wire.{FitsBuffer};
 
 use super::address::{address_of, peer_of};
-use crate::fault::Failed;
-use crate::listen::Peer;
-use crate::wire::{Got, Wire};
+use rad_outside::{Failed, Got, Peer, Wire};
 use std::io;
 use std::io::ErrorKind;
 use std::net::{Net, UdpSocket};

@@ -1,15 +1,12 @@
 ghost use Rattle.std.specs.Prelude.{◌≡◌, ◌++◌, ◌∷◌, ◌↔◌, [], Some, IsSome, IfOk, IfSome, OnOk, OnErr, IsTrue, All, is_some};
 ghost use Rattle.std.specs.Option.{option_map, option_to_list};
-ghost use Rattle.rad_edge.specs.Telling.{Counts};
-ghost use Rattle.rad_edge.specs.Crew.{handed_by};
+ghost use Rattle.rad_outside.specs.Telling.{Counts};
+ghost use Rattle.rad_outside.specs.Crew.{handed_by};
 ghost use Rattle.rad_edge.specs.MemCrew.{IsFresh, HandsNext, next_kit, after_kit};
 
 use super::failing::Failing;
 use super::room::push_within;
-use crate::crew::{Crew, Kit};
-use crate::fault::{KitFault, NoMemory};
-use crate::listen::Listen;
-use crate::wire::Wire;
+use rad_outside::{Crew, Kit, KitFault, Listen, NoMemory, Wire};
 use std::alloc::Global;
 use std::collections::VecDeque;
 use std::marker::Model;

@@ -1,12 +1,11 @@
 ghost use Rattle.std.specs.Prelude.{◌≡◌, ◌≢◌, ◌↔◌, IsTrue, Some, map};
-ghost use Rattle.rad_edge.specs.Telling.{Counts};
+ghost use Rattle.rad_outside.specs.Telling.{Counts};
 ghost use Rattle.rad_edge.specs.Failing.{fails_next};
-ghost use Rattle.rad_edge.specs.Files.{begun, IsReading};
+ghost use Rattle.rad_outside.specs.Files.{begun, IsReading};
 ghost use Rattle.rad_edge.specs.MemFiles.{files_of, told_after, after_begin, after_read};
 
 use super::failing::Failing;
-use crate::files::{Files, Found};
-use crate::octets::Octets;
+use rad_outside::{Files, Found, Octets};
 use std::alloc::Global;
 use std::marker::Model;
 

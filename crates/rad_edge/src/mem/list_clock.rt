@@ -1,10 +1,10 @@
 ghost use Rattle.std.specs.Prelude.{◌≡◌, ◌++◌, ◌∷◌, []};
-ghost use Rattle.rad_edge.specs.Telling.{Tells};
+ghost use Rattle.rad_outside.specs.Telling.{Tells};
 ghost use Rattle.rad_edge.specs.Memory.{risen};
 ghost use Rattle.rad_edge.specs.MemList.{number_at, told_by};
 
 use super::repeating::Repeating;
-use crate::clock::Clock;
+use rad_outside::Clock;
 use std::marker::Model;
 
 /// A clock that gives a list of moments, and then the last one again and again. An empty list gives 0.

@@ -1,10 +1,10 @@
 ghost use Rattle.std.specs.Prelude.{◌≡◌, ◌++◌, ◌∷◌, []};
-ghost use Rattle.rad_edge.specs.Telling.{Tells};
+ghost use Rattle.rad_outside.specs.Telling.{Tells};
 ghost use Rattle.rad_edge.specs.Memory.{risen};
 ghost use Rattle.rad_edge.specs.MemList.{number_at, told_by};
 
 use super::repeating::Repeating;
-use crate::clock::Luck;
+use rad_outside::Luck;
 use std::marker::Model;
 
 /// A source that gives a list of words, and then the last one again and again. An empty list gives 0.

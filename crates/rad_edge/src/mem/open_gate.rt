@@ -1,4 +1,4 @@
-use crate::gate::{Gate, Point};
+use rad_outside::{Gate, Point};
 
 /// A gate that holds nobody.
 #[derive(Clone, Copy, Debug)]

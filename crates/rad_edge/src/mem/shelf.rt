@@ -1,13 +1,11 @@
 ghost use Rattle.std.specs.Prelude.{◌≡◌, ◌≢◌, ◌++◌, ◌∷◌, [], Some, IfSome, IsSome, IsErr, OnOk, is_some};
-ghost use Rattle.rad_edge.specs.Telling.{Tells, Counts};
-ghost use Rattle.rad_edge.specs.Shelf.{Appends};
+ghost use Rattle.rad_outside.specs.Telling.{Tells, Counts};
+ghost use Rattle.rad_outside.specs.Shelf.{Appends};
 ghost use Rattle.rad_edge.specs.Failing.{next_cut};
 ghost use Rattle.rad_edge.specs.MemShelf.{AppendsNext, count_written};
 
 use super::failing::Failing;
-use crate::fault::{Failed, NoMemory};
-use crate::octets::Octets;
-use crate::shelf::{Append, Shelf};
+use rad_outside::{Append, Failed, NoMemory, Octets, Shelf};
 use std::alloc::Global;
 use std::marker::Model;
 

@@ -1,12 +1,11 @@
 ghost use Rattle.std.specs.Prelude.{◌≡◌, [], Some, IfSome, IsErr, IsTrue};
-ghost use Rattle.rad_edge.specs.Telling.{Tells, Counts};
-ghost use Rattle.rad_edge.specs.Sink.{Writes};
+ghost use Rattle.rad_outside.specs.Telling.{Tells, Counts};
+ghost use Rattle.rad_outside.specs.Sink.{Writes};
 ghost use Rattle.rad_edge.specs.Failing.{fails_next};
 ghost use Rattle.rad_edge.specs.MemSink.{after_write};
 
 use super::failing::Failing;
-use crate::fault::Failed;
-use crate::sink::Sink;
+use rad_outside::{Failed, Sink};
 use std::alloc::Global;
 use std::marker::Model;
 

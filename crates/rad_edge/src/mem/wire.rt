@@ -1,16 +1,13 @@
 ghost use Rattle.std.specs.Prelude.{◌≡◌, ◌≤◌, ◌++◌, ◌∷◌, [], Some, IfSome, IsErr, IsTrue, is_ok, is_some, length, take, OnOk};
-ghost use Rattle.rad_edge.specs.Telling.{Tells, Counts};
-ghost use Rattle.rad_edge.specs.Wire.{heard_of, FitsBuffer, failures_after, IsEnding};
+ghost use Rattle.rad_outside.specs.Telling.{Tells, Counts};
+ghost use Rattle.rad_outside.specs.Wire.{heard_of, FitsBuffer, failures_after, IsEnding};
 ghost use Rattle.rad_edge.specs.Failing.{fails_next};
 ghost use Rattle.rad_edge.specs.MemWire.{FollowsScript, ReceivesNext, SendsNext, has_ended, next_answer};
 ghost use Rattle.std.specs.Option.{option_to_list};
 
 use super::failing::Failing;
 use super::room::push_within;
-use crate::fault::{Failed, NoMemory};
-use crate::listen::Peer;
-use crate::octets::Octets;
-use crate::wire::{Got, Heard, Sent, Wire};
+use rad_outside::{Failed, Got, Heard, NoMemory, Octets, Peer, Sent, Wire};
 use std::alloc::Global;
 use std::collections::VecDeque;
 use std::marker::Model;

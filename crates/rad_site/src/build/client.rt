@@ -8,7 +8,7 @@ use crate::build::item::{named_block, setting_of};
 use crate::build::refusal::refuse;
 use crate::fault::BuildFault;
 use rad_conf::Node;
-use rad_edge::Octets;
+use rad_outside::Octets;
 use rad_pairs::address_of;
 use rad_wire::Client;
 use std::alloc::Global;

@@ -1,14 +1,14 @@
 //! The dictionary of a site.
 
 ghost use Rattle.std.specs.Prelude.{◌≡◌};
-ghost use Rattle.rad_edge.specs.Telling.{Counts};
+ghost use Rattle.rad_outside.specs.Telling.{Counts};
 ghost use Rattle.rad_site.specs.Built.{dict_at};
 ghost use Rattle.rad_site.specs.Sources.{FindsIn};
 
 use crate::fault::BuildFault;
 use rad_conf::path_of;
 use rad_dict::Dict;
-use rad_edge::{Files, Found};
+use rad_outside::{Files, Found};
 use std::alloc::Global;
 
 /// The name of the dictionary's file in its folder.

@@ -1,7 +1,7 @@
 //! The modules of a site, and the users file that they name.
 
 ghost use Rattle.std.specs.Prelude.{◌≡◌};
-ghost use Rattle.rad_edge.specs.Telling.{Counts};
+ghost use Rattle.rad_outside.specs.Telling.{Counts};
 ghost use Rattle.rad_site.specs.Nodes.{Gives, only, after_each};
 ghost use Rattle.rad_site.specs.Sources.{FindsIn};
 ghost use Rattle.rad_site.specs.ModulesBlock.{users_in, users_at, filename_at, no_modules, no_items, alone, is_first_files, is_first_pap, with_files, with_pap, with_module, modules_at};
@@ -13,7 +13,7 @@ use crate::fault::BuildFault;
 use mod_files::{Users, UsersFault};
 use rad_conf::Node;
 use rad_dict::Dict;
-use rad_edge::{Files, Found, Octets, Place};
+use rad_outside::{Files, Found, Octets, Place};
 use std::alloc::Global;
 
 /// The most octets of a users file: 4 MiB.

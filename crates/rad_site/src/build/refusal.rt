@@ -4,7 +4,7 @@ ghost use Rattle.std.specs.Prelude.{◌≡◌, IfOk};
 ghost use Rattle.rad_site.specs.Nodes.{Gives, refused};
 
 use crate::fault::{BuildFault, TreeFault};
-use rad_edge::{NoMemory, Octets, Place};
+use rad_outside::{NoMemory, Octets, Place};
 use std::alloc::Global;
 
 /// A copy of a place.

@@ -12,7 +12,7 @@ use crate::build::subsection::subsections_of;
 use crate::fault::BuildFault;
 use crate::statement::{Statements, Subsections};
 use rad_conf::Node;
-use rad_edge::{Octets, Peer, Place};
+use rad_outside::{Octets, Peer, Place};
 use rad_tables::Section;
 use std::alloc::Global;
 

@@ -3,7 +3,7 @@
 ghost use Rattle.std.specs.Prelude.{◌≡◌};
 ghost use Rattle.std.specs.List.{find, filter};
 ghost use Rattle.std.specs.Option.{option_map, option_copied};
-ghost use Rattle.rad_edge.specs.Telling.{Counts};
+ghost use Rattle.rad_outside.specs.Telling.{Counts};
 ghost use Rattle.rad_site.specs.Nodes.{Gives, only, refused};
 ghost use Rattle.rad_site.specs.Sources.{FindsIn};
 ghost use Rattle.rad_site.specs.Items.{is_block};
@@ -21,7 +21,7 @@ use crate::generation::Generation;
 use mod_files::Users;
 use rad_conf::Node;
 use rad_dict::Dict;
-use rad_edge::{Files, Octets, Place};
+use rad_outside::{Files, Octets, Place};
 use rad_wire::Client;
 use std::alloc::Global;
 

@@ -9,7 +9,7 @@ use crate::build::refusal::refuse;
 use crate::fault::BuildFault;
 use crate::statement::{Statement, Statements};
 use rad_conf::{Item, Node};
-use rad_edge::{Octets, Place};
+use rad_outside::{Octets, Place};
 use rad_tables::{Code, Section};
 use std::alloc::Global;
 

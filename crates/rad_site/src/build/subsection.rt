@@ -14,7 +14,7 @@ use crate::build::statement::{named_statement, statements_of};
 use crate::fault::BuildFault;
 use crate::statement::{Statements, Subsection, Subsections};
 use rad_conf::{Item, Node};
-use rad_edge::Octets;
+use rad_outside::Octets;
 use rad_tables::Section;
 use std::alloc::Global;
 

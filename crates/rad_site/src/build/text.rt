@@ -7,7 +7,7 @@ use crate::fault::{BuildFault, TreeFault};
 use mod_files::UsersFault;
 use rad_conf::ConfFault;
 use rad_dict::DictFault;
-use rad_edge::{NoMemory, Octets, Place};
+use rad_outside::{NoMemory, Octets, Place};
 use std::alloc::Global;
 
 /// A reason at a line of a file.

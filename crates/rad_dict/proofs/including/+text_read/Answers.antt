@@ -1,7 +1,7 @@
 use Rattle.std.proofs.Common.{◌≡◌, ◌+◌, Result, Ok, Err, refl, sym, ap, subst, ◌∙◌, length, arith}
 use Rattle.std.proofs.lemmas.Result.{err_from_is_err_and}
 use Rattle.std.proofs.lemmas.Bool.{eqb-true}
-use Rattle.rad_edge.specs.Files.{FilesTold}
+use Rattle.rad_outside.specs.Files.{FilesTold}
 use Rattle.rad_dict.specs.declared.fault.DictFault.{DictFault}
 use Rattle.rad_dict.specs.declared.reading.Reading.{Reading}
 use Rattle.rad_dict.specs.declared.step.Step.{Step}

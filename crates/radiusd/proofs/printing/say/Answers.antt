@@ -1,4 +1,4 @@
-use Rattle.rad_edge.specs.Telling.{Rose}
+use Rattle.rad_outside.specs.Telling.{Rose}
 use Rattle.radiusd.proofs.Printings.{writes_front}
 use Rattle.radiusd.proofs.printing.say.Goals as goal
 

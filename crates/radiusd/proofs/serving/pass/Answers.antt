@@ -1,6 +1,6 @@
 use Rattle.std.proofs.Common.{ℕ, List, [], Some, None, take, not, subst, sym, ap, refl, arith}
-use Rattle.rad_edge.specs.declared.crew.Kit.{Kit}
-use Rattle.rad_edge.specs.declared.wire.Heard.TheVariants as heard
+use Rattle.rad_outside.specs.declared.crew.Kit.{Kit}
+use Rattle.rad_outside.specs.declared.wire.Heard.TheVariants as heard
 use Rattle.rad_core.specs.Entry.{Entry}
 use Rattle.rad_site.specs.declared.fault.BuildFault.{BuildFault}
 use Rattle.radiusd.specs.declared.left.Left.TheVariants as leaving

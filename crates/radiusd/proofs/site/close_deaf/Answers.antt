@@ -1,5 +1,5 @@
 use Rattle.std.proofs.Common.{ℕ, List, ◌++◌, subst}
-use Rattle.rad_edge.specs.Telling.{Rose, Tells}
+use Rattle.rad_outside.specs.Telling.{Rose, Tells}
 use Rattle.radiusd.specs.Lines.{socket_fault_line}
 use Rattle.radiusd.specs.Printing.{Prints}
 use Rattle.radiusd.proofs.Printings.{Prints-behind, Prints-weaker, Prints-followed, Rose-since}

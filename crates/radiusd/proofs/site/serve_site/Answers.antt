@@ -1,10 +1,10 @@
 use Rattle.std.proofs.Common.{◌≡◌, ◌++◌, List, [], ◌∷◌, Some, None, true, length, drop, refl, inr, sym, ap, ◌∙◌, subst, append-nil}
 use Rattle.std.proofs.Math.Seq.{drop-append_seam}
-use Rattle.rad_edge.specs.declared.crew.Kit.{Kit}
-use Rattle.rad_edge.specs.declared.listen.Listen.{Listen}
-use Rattle.rad_edge.specs.declared.fault.KitFault.TheVariants as fault
-use Rattle.rad_edge.specs.Crew.{Handed}
-use Rattle.rad_edge.specs.Telling.{Tells}
+use Rattle.rad_outside.specs.declared.crew.Kit.{Kit}
+use Rattle.rad_outside.specs.declared.listen.Listen.{Listen}
+use Rattle.rad_outside.specs.declared.fault.KitFault.TheVariants as fault
+use Rattle.rad_outside.specs.Crew.{Handed}
+use Rattle.rad_outside.specs.Telling.{Tells}
 use Rattle.rad_core.specs.Entry.{Entry}
 use Rattle.rad_site.specs.declared.fault.BuildFault.{BuildFault}
 use Rattle.radiusd.specs.declared.status.Status.TheVariants as status

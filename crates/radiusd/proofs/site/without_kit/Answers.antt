@@ -1,5 +1,5 @@
 use Rattle.std.proofs.Common.{inl}
-use Rattle.rad_edge.specs.Telling.{Rose}
+use Rattle.rad_outside.specs.Telling.{Rose}
 use Rattle.radiusd.specs.Course.{IsExcused}
 use Rattle.radiusd.specs.Lines.{socket_fault_line}
 use Rattle.radiusd.proofs.Printings.{Prints-weaker}

@@ -1,6 +1,6 @@
 use Rattle.std.proofs.Common.{◌≡◌, ◌⊎◌, List, [], Err, map, string_bytes, refl, inl, inr, sym, ap, subst, append-nil}
-use Rattle.rad_edge.specs.declared.crew.Kit.{Kit}
-use Rattle.rad_edge.specs.Telling.{Rose}
+use Rattle.rad_outside.specs.declared.crew.Kit.{Kit}
+use Rattle.rad_outside.specs.Telling.{Rose}
 use Rattle.radiusd.specs.declared.status.Status.TheVariants as status
 use Rattle.radiusd.specs.Told.{KitTells, GrowsBy}
 use Rattle.radiusd.specs.Course.{Course, Misworded, Unbuilt, Serving, IsExcused, fault_line}

@@ -1,5 +1,5 @@
 use Rattle.std.proofs.Common.{◌≡◌, drop}
-use Rattle.rad_edge.specs.Files.{octets_at}
+use Rattle.rad_outside.specs.Files.{octets_at}
 use Rattle.rad_edge.specs.MemFiles.{files_of}
 use Rattle.rad_edge.proofs.mem.files.find.Given as goal
 

@@ -1,5 +1,5 @@
 use Rattle.std.proofs.Common.{◌≤◌, drop}
-use Rattle.rad_edge.specs.Telling.{Tells}
+use Rattle.rad_outside.specs.Telling.{Tells}
 use Rattle.rad_site.proofs.ModuleTurns.{Reads}
 use Rattle.rad_site.proofs.build.modules.modules_of.Given as goal
 

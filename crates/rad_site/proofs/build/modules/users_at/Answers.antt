@@ -2,7 +2,7 @@ use Rattle.std.specs.Str.{is_utf8}
 use Rattle.std.proofs.Common.{◌≡◌, false, cond, ap, ◌∙◌}
 use Rattle.std.proofs.lemmas.Bool.{false_from_ne_true}
 use Rattle.std.proofs.lemmas.Str.{IsUtf8-from_is_utf8, is_utf8-from_IsUtf8}
-use Rattle.rad_edge.specs.Files.{octets_at}
+use Rattle.rad_outside.specs.Files.{octets_at}
 use Rattle.rad_site.specs.Nodes.{refused}
 use Rattle.rad_site.specs.ModulesBlock.{file_path, users_in, users_at}
 use Rattle.rad_site.proofs.Finding.{FindsIn-pure}

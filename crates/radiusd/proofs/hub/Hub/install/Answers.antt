@@ -1,5 +1,5 @@
 use Rattle.std.proofs.Common.{◌≡◌, List, ap, sym, ◌∙◌, ◌++◌, ◌∷◌, [], subst, Ok}
-use Rattle.rad_edge.specs.declared.listen.Listen.{Listen}
+use Rattle.rad_outside.specs.declared.listen.Listen.{Listen}
 use Rattle.rad_core.specs.declared.installed.Installed.{Installed}
 use Rattle.radiusd.specs.declared.entry.StoredEntry.{StoredEntry}
 use Rattle.std.specs.Arc.{arc_value}

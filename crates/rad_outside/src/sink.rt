@@ -1,6 +1,6 @@
 ghost use Rattle.std.specs.Prelude.{ℕ, List, Option, IsErr};
-ghost use Rattle.rad_edge.specs.Telling.{Tells, Counts};
-ghost use Rattle.rad_edge.specs.Sink.{Writes};
+ghost use Rattle.rad_outside.specs.Telling.{Tells, Counts};
+ghost use Rattle.rad_outside.specs.Sink.{Writes};
 
 use crate::fault::Failed;
 

@@ -1,5 +1,5 @@
 ghost use Rattle.std.specs.Prelude.{◌≡◌, ◌++◌, ◌∷◌, [], ℕ, List, Option};
-ghost use Rattle.rad_edge.specs.Telling.{Tells};
+ghost use Rattle.rad_outside.specs.Telling.{Tells};
 
 /// A clock. It never fails.
 pub trait Clock {

@@ -1,6 +1,6 @@
 ghost use Rattle.std.specs.Prelude.{◌≡◌, ◌++◌, ◌↔◌, ℕ, List, Option, IsSome, IfOk, IfSome};
-ghost use Rattle.rad_edge.specs.Telling.{Tells, Counts};
-ghost use Rattle.rad_edge.specs.Crew.{Handed, handed_by};
+ghost use Rattle.rad_outside.specs.Telling.{Tells, Counts};
+ghost use Rattle.rad_outside.specs.Crew.{Handed, handed_by};
 
 use crate::fault::KitFault;
 use crate::listen::Listen;

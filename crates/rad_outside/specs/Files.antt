@@ -3,8 +3,8 @@ use Rattle.std.specs.Prelude.{ℕ, ◌≡◌, List, [], ◌∷◌, Option, Some,
 use Rattle.std.specs.List.{find}
 use Rattle.std.specs.Option.{option_map}
 use Rattle.std.specs.Str.{bytes_eq}
-use Rattle.rad_edge.specs.declared.files.Found.{Found}
-use Rattle.rad_edge.specs.declared.files.Found.TheVariants as found
+use Rattle.rad_outside.specs.declared.files.Found.{Found}
+use Rattle.rad_outside.specs.declared.files.Found.TheVariants as found
 
 -- A file of a map: its path and its octets.
 pub record File : Type 0 where

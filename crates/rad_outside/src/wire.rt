@@ -1,6 +1,6 @@
 ghost use Rattle.std.specs.Prelude.{◌≡◌, ◌++◌, ◌∷◌, [], ℕ, Option, Bool, IsErr, is_ok, length};
-ghost use Rattle.rad_edge.specs.Telling.{Tells, Counts};
-ghost use Rattle.rad_edge.specs.Wire.{WireTold, heard_of, FitsBuffer, failures_after, IsEnding};
+ghost use Rattle.rad_outside.specs.Telling.{Tells, Counts};
+ghost use Rattle.rad_outside.specs.Wire.{WireTold, heard_of, FitsBuffer, failures_after, IsEnding};
 
 use crate::fault::Failed;
 use crate::listen::Peer;

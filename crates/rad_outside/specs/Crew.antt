@@ -2,9 +2,9 @@
 use Rattle.std.specs.Prelude.{ℕ, List, [], ◌∷◌, Option, Result, Ok, Err}
 use Rattle.std.specs.Option.{option_map}
 use Rattle.std.specs.Borrow.{Bor}
-use Rattle.rad_edge.specs.declared.crew.Kit.{Kit}
-use Rattle.rad_edge.specs.declared.listen.Listen.{Listen}
-use Rattle.rad_edge.specs.declared.fault.KitFault.{KitFault}
+use Rattle.rad_outside.specs.declared.crew.Kit.{Kit}
+use Rattle.rad_outside.specs.declared.listen.Listen.{Listen}
+use Rattle.rad_outside.specs.declared.fault.KitFault.{KitFault}
 
 -- A kit as it was handed out, for this worker, this listener and this control listener.
 pub record Handed (W S K U G : Type 0) : Type 0 where

@@ -1,7 +1,7 @@
 ghost use Rattle.std.specs.Prelude.{◌≢◌, [], ℕ, List, Option, IsErr};
-ghost use Rattle.rad_edge.specs.Telling.{Tells, Counts};
-ghost use Rattle.rad_edge.specs.Shelf.{Appends};
-ghost use Rattle.rad_edge.specs.declared.shelf.Append.{Append};
+ghost use Rattle.rad_outside.specs.Telling.{Tells, Counts};
+ghost use Rattle.rad_outside.specs.Shelf.{Appends};
+ghost use Rattle.rad_outside.specs.declared.shelf.Append.{Append};
 
 use crate::fault::Failed;
 use crate::octets::Octets;

@@ -1,10 +1,10 @@
 -- What a wire tells: its answers in order, and the datagrams that were handed in, in order. This project's own.
 use Rattle.std.specs.Prelude.{ℕ, ◌≡◌, ◌+◌, ◌-◌, ◌^◌, ◌≤◌, ◌⊎◌, min, take, List, Bool, IsTrue}
-use Rattle.rad_edge.specs.declared.wire.Got.{Got}
-use Rattle.rad_edge.specs.declared.wire.Got.TheVariants as got
-use Rattle.rad_edge.specs.declared.wire.Heard.{Heard}
-use Rattle.rad_edge.specs.declared.wire.Heard.TheVariants as heard
-use Rattle.rad_edge.specs.declared.wire.Sent.{Sent}
+use Rattle.rad_outside.specs.declared.wire.Got.{Got}
+use Rattle.rad_outside.specs.declared.wire.Got.TheVariants as got
+use Rattle.rad_outside.specs.declared.wire.Heard.{Heard}
+use Rattle.rad_outside.specs.declared.wire.Heard.TheVariants as heard
+use Rattle.rad_outside.specs.declared.wire.Sent.{Sent}
 
 -- The answers so far, and the datagrams handed in so far.
 pub record WireTold : Type 0 where

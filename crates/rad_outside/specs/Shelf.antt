@@ -3,8 +3,8 @@ use Rattle.std.specs.Prelude.{ℕ, ◌≡◌, ◌<◌, ◌++◌, List, [], ◌�
 use Rattle.std.specs.List.{flat_map}
 use Rattle.std.specs.Str.{bytes_eq}
 use Rattle.std.specs.Prelude.{if◌then◌else◌}
-use Rattle.rad_edge.specs.declared.shelf.Append.{Append}
-use Rattle.rad_edge.specs.declared.fault.Failed.{Failed}
+use Rattle.rad_outside.specs.declared.shelf.Append.{Append}
+use Rattle.rad_outside.specs.declared.fault.Failed.{Failed}
 
 -- One more piece was handed in. It was appended whole, or after a failure a proper prefix of it.
 abbrev pub Appends : List ℕ → List ℕ → Result (Unit {0}) Failed → List Append → List Append → Type 0

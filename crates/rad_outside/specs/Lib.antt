@@ -1,0 +1,6 @@
+pub mod Telling
+pub mod Files
+pub mod Wire
+pub mod Shelf
+pub mod Sink
+pub mod Crew
