@@ -1,8 +1,8 @@
 -- Every dictionary knows the attribute Cleartext-Password as a text, since the base does.
 use Rattle.std.proofs.Common.{◌≡◌, Option, Some, None, refl, ap}
 use Rattle.std.specs.List.{find}
-use Rattle.rad_tables.specs.declared.attributes.Kind.TheVariants as kind
-use Rattle.rad_tables.specs.Attribute.{same_attr}
+use Rattle.rad_words.specs.declared.attributes.Kind.TheVariants as kind
+use Rattle.rad_words.specs.Attribute.{same_attr}
 use Rattle.rad_dict.specs.declared.definitions.AttrDef.{AttrDef}
 use Rattle.rad_dict.specs.Definitions.{Definitions}
 use Rattle.rad_dict.specs.BaseAttributes.{internal, standard_attrs, internal_attrs, base_attrs}

@@ -4,7 +4,7 @@ use Rattle.std.specs.Int.{is_in_range}
 use Rattle.std.specs.List.{list_any, list_all, flat_map, onto_first}
 use Rattle.std.proofs.lemmas.Bool.{true≢false, ne_eqb, and_parts, or_parts, or_from}
 use Rattle.std.proofs.lemmas.List.Folds.{list_any-append}
-use Rattle.rad_tables.specs.declared.attributes.AttrId.{AttrId}
+use Rattle.rad_words.specs.declared.attributes.AttrId.{AttrId}
 use Rattle.rad_value.specs.declared.values.Value.{Value}
 use Rattle.rad_value.specs.declared.values.Value.TheVariants as value
 use Rattle.rad_value.specs.declared.values.Pair.{Pair}

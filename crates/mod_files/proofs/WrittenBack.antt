@@ -9,7 +9,7 @@ use Rattle.rad_pairs.specs.Words.{is_blank}
 use Rattle.rad_pairs.specs.ValueText.{quoted, attr_text, pair_text}
 use Rattle.rad_dict.specs.EveryDictionary.{IsDictionary}
 use Rattle.rad_pairs.specs.ReadingBack.{item_of}
-use Rattle.rad_tables.specs.declared.attributes.Kind.TheVariants as kind
+use Rattle.rad_words.specs.declared.attributes.Kind.TheVariants as kind
 use Rattle.rad_pairs.proofs.Attributes.{attr_again}
 use Rattle.mod_files.specs.declared.entry.Entry.{Entry}
 use Rattle.mod_files.specs.declared.line.Line.TheVariants.{Head, Replies}

@@ -3,7 +3,7 @@ use Rattle.std.proofs.Common.{◌≡◌, ℕ, zero, suc, ◌<◌, false, eqb, Li
 use Rattle.std.specs.Option.{option_to_list}
 use Rattle.std.proofs.lemmas.Bool.{or_parts}
 use Rattle.std.proofs.lemmas.List.{take_at, drop_at, append-nil, length-append}
-use Rattle.rad_tables.specs.declared.attributes.Kind.TheVariants as kind
+use Rattle.rad_words.specs.declared.attributes.Kind.TheVariants as kind
 use Rattle.rad_value.specs.declared.values.Value.TheVariants as value
 use Rattle.rad_dict.specs.Definitions.{Definitions}
 use Rattle.rad_pairs.specs.declared.items.Item.{Item}

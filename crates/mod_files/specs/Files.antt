@@ -3,10 +3,10 @@
 -- that it stops at a full list is this project's own.
 use Rattle.std.specs.Prelude.{ℕ, Bool, true, false, List, [], ◌∷◌, ◌++◌, Option, Some, None, unwrap_or, filter_map}
 use Rattle.std.specs.Option.{option_map}
-use Rattle.rad_tables.specs.declared.attributes.AttrId.{AttrId}
-use Rattle.rad_tables.specs.declared.attributes.Space.TheVariants.{Standard}
-use Rattle.rad_tables.specs.declared.codes.Code.{Code}
-use Rattle.rad_tables.specs.declared.codes.Code.TheVariants as code
+use Rattle.rad_words.specs.declared.attributes.AttrId.{AttrId}
+use Rattle.rad_words.specs.declared.attributes.Space.TheVariants.{Standard}
+use Rattle.rad_words.specs.declared.codes.Code.{Code}
+use Rattle.rad_words.specs.declared.codes.Code.TheVariants as code
 use Rattle.rad_value.specs.declared.edits.Edit.{Edit}
 use Rattle.rad_value.specs.declared.edits.EditOp.{EditOp}
 use Rattle.rad_value.specs.declared.edits.EditOp.TheVariants as edit

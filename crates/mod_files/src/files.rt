@@ -6,8 +6,8 @@ ghost use Rattle.mod_files.specs.Files.{edit_op, edit_of, edits_of, entry_edits,
 use crate::{Entry, Users};
 use rad_outside::NoMemory;
 use rad_pairs::{Item, ItemList, PairOp};
-use rad_tables::{AttrId, Code, Space};
 use rad_value::{Edit, EditOp, ListName, Lists};
+use rad_words::{AttrId, Code, Space};
 use std::alloc::Global;
 
 /// The attribute whose value names the user.

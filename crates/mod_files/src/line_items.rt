@@ -6,8 +6,8 @@ ghost use Rattle.mod_files.specs.LineItems.{Gives, items_in, is_password, is_one
 use crate::fault::LineError;
 use rad_dict::Dict;
 use rad_pairs::{Item, ItemList, PairFault, PairOp, read_pairs};
-use rad_tables::{AttrId, Space};
 use rad_value::Value;
+use rad_words::{AttrId, Space};
 use std::alloc::Global;
 
 /// The attribute of the one check item that is built.

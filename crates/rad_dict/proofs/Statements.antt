@@ -1,8 +1,8 @@
 -- What a statement makes known, from what was looked up for it.
 use Rattle.std.proofs.Common.{◌≡◌, ℕ, ◌<◌, List, Option, Some, None, option_map, sym, ap, ◌∙◌}
 use Rattle.std.proofs.lemmas.Bool.{cond-true, lt-ltb}
-use Rattle.rad_tables.specs.declared.attributes.AttrId.{AttrId}
-use Rattle.rad_tables.specs.declared.attributes.Kind.{Kind}
+use Rattle.rad_words.specs.declared.attributes.AttrId.{AttrId}
+use Rattle.rad_words.specs.declared.attributes.Kind.{Kind}
 use Rattle.rad_dict.specs.declared.definitions.AttrDef.{AttrDef}
 use Rattle.rad_dict.specs.declared.reading.Reading.{Reading}
 use Rattle.rad_dict.specs.Definitions.{attr_named}

@@ -3,10 +3,10 @@
 -- ones, which never go on the wire and are numbered from 1, are this project's own, after FreeRADIUS.
 use Rattle.std.specs.Prelude.{ℕ, List, [], ◌∷◌, ◌++◌, map, codes}
 use Prim.Native.String.{String}
-use Rattle.rad_tables.specs.declared.attributes.Kind.{Kind}
-use Rattle.rad_tables.specs.declared.attributes.Kind.TheVariants.{Text, Octets, Addr, Number, Date}
-use Rattle.rad_tables.specs.Names.{Row}
-use Rattle.rad_tables.specs.declared.attributes.Space.TheVariants.{Standard, Internal}
+use Rattle.rad_words.specs.declared.attributes.Kind.{Kind}
+use Rattle.rad_words.specs.declared.attributes.Kind.TheVariants.{Text, Octets, Addr, Number, Date}
+use Rattle.rad_words.specs.Names.{Row}
+use Rattle.rad_words.specs.declared.attributes.Space.TheVariants.{Standard, Internal}
 use Rattle.rad_dict.specs.declared.definitions.AttrDef.{AttrDef}
 use Rattle.rad_dict.specs.Rows.{attr_def}
 

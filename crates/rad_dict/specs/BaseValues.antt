@@ -5,7 +5,7 @@
 -- 49 Acct-Terminate-Cause, 61 NAS-Port-Type.
 use Rattle.std.specs.Prelude.{ℕ, ◌==◌, List, [], ◌∷◌, map, filter, codes}
 use Prim.Native.String.{String}
-use Rattle.rad_tables.specs.Names.{Row}
+use Rattle.rad_words.specs.Names.{Row}
 use Rattle.rad_dict.specs.declared.definitions.ValueDef.{ValueDef}
 use Rattle.rad_dict.specs.Rows.{value_def}
 

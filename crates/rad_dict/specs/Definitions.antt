@@ -2,8 +2,8 @@
 -- without regard to ASCII case, after dictionary(5) of FreeRADIUS.
 use Rattle.std.specs.Prelude.{ℕ, Bool, ◌&&◌, ◌==◌, List, Option, option_map, find}
 use Rattle.std.specs.Str.{str_eq_ignore_ascii_case}
-use Rattle.rad_tables.specs.declared.attributes.AttrId.{AttrId}
-use Rattle.rad_tables.specs.Attribute.{same_attr}
+use Rattle.rad_words.specs.declared.attributes.AttrId.{AttrId}
+use Rattle.rad_words.specs.Attribute.{same_attr}
 use Rattle.rad_dict.specs.declared.definitions.AttrDef.{AttrDef}
 use Rattle.rad_dict.specs.declared.definitions.ValueDef.{ValueDef}
 

@@ -2,9 +2,9 @@
 -- others may have it too. This project's own; names go by the hash of Fowler, Noll and Vo, with a sum.
 use Rattle.std.specs.Prelude.{ℕ, ◌+◌, ◌*◌, ◌^◌, ◌%◌, List, [], ◌∷◌}
 use Rattle.std.specs.Str.{str_to_ascii_lowercase}
-use Rattle.rad_tables.specs.declared.attributes.AttrId.{AttrId}
-use Rattle.rad_tables.specs.declared.attributes.Space.{Space}
-use Rattle.rad_tables.specs.declared.attributes.Space.TheVariants.{Standard, Vendor, Internal}
+use Rattle.rad_words.specs.declared.attributes.AttrId.{AttrId}
+use Rattle.rad_words.specs.declared.attributes.Space.{Space}
+use Rattle.rad_words.specs.declared.attributes.Space.TheVariants.{Standard, Vendor, Internal}
 use Rattle.rad_dict.specs.declared.definitions.AttrDef.{AttrDef}
 use Rattle.rad_dict.specs.declared.definitions.ValueDef.{ValueDef}
 

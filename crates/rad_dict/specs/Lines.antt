@@ -3,8 +3,8 @@
 use Rattle.std.specs.Prelude.{ℕ, Bool, ◌&&◌, List, Option, Some, None, IsTrue, codes, if◌then◌else◌}
 use Rattle.std.specs.Str.{str_eq_ignore_ascii_case}
 use Prim.Native.String.{String}
-use Rattle.rad_tables.specs.declared.attributes.Kind.{Kind}
-use Rattle.rad_tables.specs.declared.attributes.Kind.TheVariants.{Text, Octets, Addr, Number, Date, Byte, Short}
+use Rattle.rad_words.specs.declared.attributes.Kind.{Kind}
+use Rattle.rad_words.specs.declared.attributes.Kind.TheVariants.{Text, Octets, Addr, Number, Date, Byte, Short}
 use Rattle.rad_dict.specs.declared.line.Line as read
 use Rattle.rad_dict.specs.declared.line.Line.TheVariants as line
 use Rattle.rad_dict.specs.declared.line.Statement as said

@@ -1,9 +1,9 @@
 -- What a row of a table of attributes or values defines. This project's own form.
 use Rattle.std.specs.Prelude.{ℕ, List, [], ◌∷◌, map}
-use Rattle.rad_tables.specs.Names.{Row}
-use Rattle.rad_tables.specs.declared.attributes.Kind.{Kind}
-use Rattle.rad_tables.specs.declared.attributes.Space.{Space}
-use Rattle.rad_tables.specs.declared.attributes.Space.TheVariants.{Standard}
+use Rattle.rad_words.specs.Names.{Row}
+use Rattle.rad_words.specs.declared.attributes.Kind.{Kind}
+use Rattle.rad_words.specs.declared.attributes.Space.{Space}
+use Rattle.rad_words.specs.declared.attributes.Space.TheVariants.{Standard}
 use Rattle.rad_dict.specs.declared.definitions.AttrDef.{AttrDef}
 use Rattle.rad_dict.specs.declared.definitions.ValueDef.{ValueDef}
 

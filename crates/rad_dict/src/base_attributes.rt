@@ -1,7 +1,7 @@
 //! The attributes that every dictionary has, in tables of their names and numbers.
 
 ghost use Rattle.std.specs.Prelude.{◌≡◌, ◌++◌, length, map, IfOk};
-ghost use Rattle.rad_tables.specs.Names.{row_of, AreInverse};
+ghost use Rattle.rad_words.specs.Names.{row_of, AreInverse};
 ghost use Rattle.rad_dict.specs.BaseAttributes.{standard_attrs, internal_attrs, base_attrs, names_of, kinds_of};
 ghost use Rattle.rad_dict.specs.Rows.{attrs_of};
 ghost use Rattle.rad_dict.specs.Readings.{is_base};
@@ -9,7 +9,7 @@ ghost use Rattle.rad_dict.specs.Readings.{is_base};
 use crate::AttrDef;
 use crate::indexed_rows::IndexedRows;
 use rad_outside::{NoMemory, Octets};
-use rad_tables::{AttrId, Kind, NameRow, Names, Space, names};
+use rad_words::{AttrId, Kind, NameRow, Names, Space, names};
 use std::alloc::Global;
 
 /// The attributes of one space: their names and numbers, and their kinds in the same order.

@@ -2,14 +2,14 @@
 //! and RFC 2866 number, under this project's own spellings after FreeRADIUS.
 
 ghost use Rattle.std.specs.Prelude.{◌≡◌, ◌++◌, map, IfOk};
-ghost use Rattle.rad_tables.specs.Names.{row_of, AreInverse};
+ghost use Rattle.rad_words.specs.Names.{row_of, AreInverse};
 ghost use Rattle.rad_dict.specs.BaseValues.{base_values, value_names};
 ghost use Rattle.rad_dict.specs.Rows.{values_of};
 
 use crate::ValueDef;
 use crate::indexed_rows::IndexedRows;
 use rad_outside::{NoMemory, Octets};
-use rad_tables::{AttrId, NameRow, Names, Space, names};
+use rad_words::{AttrId, NameRow, Names, Space, names};
 use std::alloc::Global;
 
 /// The values of Service-Type.

@@ -1,5 +1,5 @@
 use rad_outside::Octets;
-use rad_tables::{AttrId, Kind};
+use rad_words::{AttrId, Kind};
 
 /// An attribute's definition: which it is, what its values are, and its name as it is written.
 #[derive(Debug, Drop)]

@@ -8,7 +8,7 @@ ghost use Rattle.rad_dict.specs.EveryDictionary.{IsDictionary};
 use crate::indexed_rows::IndexedRows;
 use crate::{AttrDef, ValueDef};
 use rad_outside::NoMemory;
-use rad_tables::AttrId;
+use rad_words::AttrId;
 use std::alloc::Global;
 use std::marker::Model;
 

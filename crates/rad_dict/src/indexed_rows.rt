@@ -12,7 +12,7 @@ use crate::keys::{attr_key, key_with, name_key};
 use crate::search::{attr_at, attr_named_at, value_named_at, value_numbered_at};
 use crate::{AttrDef, ValueDef};
 use rad_outside::NoMemory;
-use rad_tables::AttrId;
+use rad_words::AttrId;
 use std::alloc::Global;
 use std::marker::Model;
 

@@ -3,7 +3,7 @@
 ghost use Rattle.std.specs.Prelude.{◌≡◌, ℕ, ◌<◌, ◌^◌};
 ghost use Rattle.rad_dict.specs.Keys.{key_with, name_key, space_key, attr_key};
 
-use rad_tables::{AttrId, Space};
+use rad_words::{AttrId, Space};
 
 /// A key that goes on with a number.
 #[tactic(auto, unfolding(crate::specs::Keys::key_with))]

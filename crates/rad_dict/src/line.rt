@@ -8,7 +8,7 @@ ghost use Rattle.rad_dict.specs.Lines.{statement_of, line_of, IsWellNamed, IsWel
 use crate::line_numbers::number_of;
 use crate::line_words::{is_ended, last_at, word_at};
 use crate::name_forms::{is_attr_name, is_value_name};
-use rad_tables::Kind;
+use rad_words::Kind;
 
 /// What a line states.
 #[derive(Clone, Copy, Debug)]

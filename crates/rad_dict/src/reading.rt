@@ -6,7 +6,7 @@ ghost use Rattle.rad_dict.specs.Answers.{Gives};
 ghost use Rattle.rad_dict.specs.Definitions.{attr_named, number_of};
 ghost use Rattle.rad_dict.specs.NameForms.{is_attr_name, is_value_name};
 ghost use Rattle.rad_dict.specs.Lines.{statement_of, IsWellNamed};
-ghost use Rattle.rad_tables.specs.Attribute.{same_attr};
+ghost use Rattle.rad_words.specs.Attribute.{same_attr};
 ghost use Rattle.rad_dict.specs.Lines.{attribute, value, vendor, begins, ends};
 ghost use Rattle.rad_dict.specs.FirstReading.{first_reading};
 ghost use Rattle.rad_dict.specs.Readings as readings;
@@ -18,7 +18,7 @@ use crate::search::is_named;
 use crate::vendors::{Vendor, Vendors};
 use crate::{AttrDef, Dict, ValueDef};
 use rad_outside::{NoMemory, Octets};
-use rad_tables::{AttrId, Kind, Space};
+use rad_words::{AttrId, Kind, Space};
 use std::alloc::Global;
 
 /// What is known: the dictionary so far, the vendors, the present one whose attributes are defined, and

@@ -3,13 +3,13 @@
 ghost use Rattle.std.specs.Prelude.{◌≡◌};
 ghost use Rattle.std.specs.Option.{option_copied};
 ghost use Rattle.std.specs.Str.{str_eq_ignore_ascii_case};
-ghost use Rattle.rad_tables.specs.Attribute.{same_attr};
+ghost use Rattle.rad_words.specs.Attribute.{same_attr};
 ghost use Rattle.rad_dict.specs.Definitions.{is_name_of, is_number_of};
 ghost use Rattle.rad_dict.specs.Search.{found_at};
 
 use crate::{AttrDef, ValueDef};
 use rad_outside::Octets;
-use rad_tables::AttrId;
+use rad_words::AttrId;
 
 pub fn is_named(text: &Octets, name: &[u8]) -> bool
     ensures { result ≡ str_eq_ignore_ascii_case text.now name.now }

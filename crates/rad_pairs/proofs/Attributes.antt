@@ -5,12 +5,12 @@ use Rattle.std.specs.Str.{str_eq_ignore_ascii_case}
 use Rattle.std.specs.Fmt.{decimal}
 use Rattle.std.proofs.lemmas.Bool.{true≢false, cond-true, ltb-true, lt-ltb}
 use Rattle.std.proofs.lemmas.Option.{cond_some}
-use Rattle.rad_tables.specs.declared.attributes.AttrId.{AttrId}
-use Rattle.rad_tables.specs.declared.attributes.Space.{Space}
-use Rattle.rad_tables.specs.declared.attributes.Space.TheVariants.{Standard, Vendor, Internal}
-use Rattle.rad_tables.specs.declared.attributes.Kind.{Kind}
-use Rattle.rad_tables.specs.declared.attributes.Kind.TheVariants as kind
-use Rattle.rad_tables.specs.Attribute.{same_attr}
+use Rattle.rad_words.specs.declared.attributes.AttrId.{AttrId}
+use Rattle.rad_words.specs.declared.attributes.Space.{Space}
+use Rattle.rad_words.specs.declared.attributes.Space.TheVariants.{Standard, Vendor, Internal}
+use Rattle.rad_words.specs.declared.attributes.Kind.{Kind}
+use Rattle.rad_words.specs.declared.attributes.Kind.TheVariants as kind
+use Rattle.rad_words.specs.Attribute.{same_attr}
 use Rattle.rad_dict.specs.declared.definitions.AttrDef.{AttrDef}
 use Rattle.rad_dict.specs.Definitions.{Definitions, attr_named, definition_of}
 use Rattle.rad_pairs.specs.declared.attr_reading.AttrKind.{AttrKind}

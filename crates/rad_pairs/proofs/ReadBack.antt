@@ -2,8 +2,8 @@
 use Rattle.std.proofs.Common.{◌≡◌, ℕ, zero, suc, ◌<◌, ◌≤◌, false, eqb, List, [], ◌∷◌, ◌++◌, length, map, Some, Ok, refl, sym, ap, append_assoc, ◌∙◌, arith}
 use Rattle.std.proofs.lemmas.Bool.{or_parts}
 use Rattle.std.proofs.lemmas.List.{take_at, drop_at, append-nil, length-append}
-use Rattle.rad_tables.specs.declared.attributes.AttrId.{AttrId}
-use Rattle.rad_tables.specs.declared.attributes.Kind.TheVariants as kind
+use Rattle.rad_words.specs.declared.attributes.AttrId.{AttrId}
+use Rattle.rad_words.specs.declared.attributes.Kind.TheVariants as kind
 use Rattle.rad_value.specs.declared.values.Value.{Value}
 use Rattle.rad_value.specs.declared.values.Value.TheVariants as value
 use Rattle.rad_value.specs.declared.values.Pair.{Pair}

@@ -3,10 +3,10 @@
 use Rattle.std.specs.Prelude.{ℕ, ◌&&◌, ◌==◌, List, [], ◌∷◌, take, drop, Option, Some, None, nat_lt, codes, if◌then◌else◌}
 use Rattle.std.specs.Option.{option_map}
 use Rattle.std.specs.Str.{str_eq_ignore_ascii_case}
-use Rattle.rad_tables.specs.declared.attributes.AttrId.{AttrId}
-use Rattle.rad_tables.specs.declared.attributes.Space.TheVariants.{Standard, Vendor}
-use Rattle.rad_tables.specs.declared.attributes.Kind.{Kind}
-use Rattle.rad_tables.specs.declared.attributes.Kind.TheVariants.{Octets}
+use Rattle.rad_words.specs.declared.attributes.AttrId.{AttrId}
+use Rattle.rad_words.specs.declared.attributes.Space.TheVariants.{Standard, Vendor}
+use Rattle.rad_words.specs.declared.attributes.Kind.{Kind}
+use Rattle.rad_words.specs.declared.attributes.Kind.TheVariants.{Octets}
 use Rattle.rad_dict.specs.Definitions.{Definitions, attr_named, definition_of}
 use Rattle.rad_pairs.specs.declared.attr_reading.AttrKind.{AttrKind}
 use Rattle.rad_pairs.specs.Numerals.{◌>>=◌, number_at, number_of}

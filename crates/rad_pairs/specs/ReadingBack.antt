@@ -1,11 +1,11 @@
 -- What makes a printed pair read back as that pair: its value is of its attribute's kind. This project's own.
 use Rattle.std.specs.Prelude.{◌≡◌, ℕ, ◌<◌, ◌^◌, List, [], ◌∷◌, ◌++◌, Option, Some, None, nat_lt, if◌then◌else◌}
 use Rattle.std.specs.List.{flat_map, AllByRecursion}
-use Rattle.rad_tables.specs.declared.attributes.AttrId.{AttrId}
-use Rattle.rad_tables.specs.declared.attributes.Space.{Space}
-use Rattle.rad_tables.specs.declared.attributes.Space.TheVariants.{Standard, Vendor, Internal}
-use Rattle.rad_tables.specs.declared.attributes.Kind.{Kind}
-use Rattle.rad_tables.specs.declared.attributes.Kind.TheVariants as kind
+use Rattle.rad_words.specs.declared.attributes.AttrId.{AttrId}
+use Rattle.rad_words.specs.declared.attributes.Space.{Space}
+use Rattle.rad_words.specs.declared.attributes.Space.TheVariants.{Standard, Vendor, Internal}
+use Rattle.rad_words.specs.declared.attributes.Kind.{Kind}
+use Rattle.rad_words.specs.declared.attributes.Kind.TheVariants as kind
 use Rattle.rad_value.specs.declared.values.Value.{Value}
 use Rattle.rad_value.specs.declared.values.Value.TheVariants as value
 use Rattle.rad_value.specs.declared.values.Pair.{Pair}

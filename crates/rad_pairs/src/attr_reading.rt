@@ -5,7 +5,7 @@ ghost use Rattle.rad_pairs.specs.AttrNames.{attr_by, numbered, kind_or_octets, n
 
 use crate::numerals::{number_at, number_of};
 use rad_dict::Dict;
-use rad_tables::{AttrId, Kind, Space};
+use rad_words::{AttrId, Kind, Space};
 
 /// An attribute, and the kind that its name gives it.
 #[derive(Clone, Copy, Debug, PartialEq, Eq)]

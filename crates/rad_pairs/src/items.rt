@@ -3,8 +3,8 @@
 ghost use Rattle.std.specs.Prelude.{◌≡◌, length, slice_get};
 ghost use Rattle.std.specs.Option.{option_copied};
 
-use rad_tables::AttrId;
 use rad_value::Value;
+use rad_words::AttrId;
 use std::marker::Model;
 
 /// The operators of pairs, as users(5) has them.

@@ -9,8 +9,8 @@ ghost use Rattle.rad_pairs.specs.ReadingBack.{AreOctets, InRange, IsSpace, HasIt
 
 use rad_dict::Dict;
 use rad_outside::{NoMemory, Octets};
-use rad_tables::{AttrId, Space};
 use rad_value::{Pair, Value};
+use rad_words::{AttrId, Space};
 use std::alloc::Global;
 
 fn put_decimal(alloc: Global, text: &mut Vec<u8>, number: u32) -> Result<(), NoMemory>

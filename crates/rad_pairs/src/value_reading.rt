@@ -9,8 +9,8 @@ use crate::attr_reading::AttrKind;
 use crate::numerals::{digit_value, is_digit, number_at, number_of, numeral_of};
 use rad_dict::{AttrDef, Dict};
 use rad_outside::{NoMemory, Octets};
-use rad_tables::{AttrId, Kind};
 use rad_value::Value;
+use rad_words::{AttrId, Kind};
 use std::alloc::Global;
 
 /// Octets of two digits each.

@@ -3,7 +3,7 @@ use Rattle.std.specs.Prelude.{nat_lt, find}
 use Rattle.std.specs.Option.{option_map}
 use Rattle.std.proofs.Common.{◌≡◌, ℕ, Bool, true, false, cond, List, [], ◌∷◌, Option, Some, None, refl, sym, ap, ◌∙◌, arith}
 use Rattle.std.proofs.lemmas.Bool.Decides.{nat_tests}
-use Rattle.rad_tables.specs.declared.codes.Code.{Code}
+use Rattle.rad_words.specs.declared.codes.Code.{Code}
 use Rattle.rad_site.specs.declared.judgement.Child.{Child}
 use Rattle.rad_site.specs.Judgement.{ends, ending_code, priority_of, heavier, heavier_of, heaviest, judged}
 

@@ -5,9 +5,9 @@ use Rattle.std.specs.Str.{str_eq_ignore_ascii_case}
 use Rattle.std.specs.List.{cons_option}
 use Rattle.std.proofs.Common.{◌≡◌, ℕ, suc, Bool, true, false, cond, List, [], ◌∷◌, ◌++◌, Option, Some, None, Contains, IsFalse, codes, unwrap_or, refl, sym, ap, subst, ◌∙◌, arith}
 use Rattle.std.proofs.lemmas.Option.{same_Some}
-use Rattle.rad_tables.specs.declared.codes.Code.{Code}
-use Rattle.rad_tables.specs.declared.codes.Code.TheVariants as code
-use Rattle.rad_tables.specs.declared.sections.Section.TheVariants.{Authorize}
+use Rattle.rad_words.specs.declared.codes.Code.{Code}
+use Rattle.rad_words.specs.declared.codes.Code.TheVariants as code
+use Rattle.rad_words.specs.declared.sections.Section.TheVariants.{Authorize}
 use Rattle.rad_value.specs.declared.values.Pair.{Pair}
 use Rattle.rad_value.specs.declared.values.Value.TheVariants.{Text}
 use Rattle.rad_value.specs.declared.edits.Edit.{Edit}

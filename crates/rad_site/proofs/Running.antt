@@ -2,8 +2,8 @@
 use Rattle.std.specs.Prelude.{unwrap_or}
 use Rattle.std.proofs.Common.{◌≡◌, ℕ, ◌+◌, ◌<◌, ◌≤◌, Bool, true, false, cond, List, [], ◌∷◌, length, get_or, drop, Option, Some, None, refl, sym, ap, ◌∙◌}
 use Rattle.std.proofs.lemmas.List.{drop_all, drop_more}
-use Rattle.rad_tables.specs.declared.codes.Code.{Code}
-use Rattle.rad_tables.specs.declared.sections.Section.{Section}
+use Rattle.rad_words.specs.declared.codes.Code.{Code}
+use Rattle.rad_words.specs.declared.sections.Section.{Section}
 use Rattle.rad_value.specs.PairLists.{PairLists}
 use Rattle.mod_files.specs.declared.entry.Entry.{Entry}
 use Rattle.rad_site.specs.declared.judgement.Child.{Child}

@@ -3,8 +3,8 @@ use Rattle.std.proofs.Common.{◌≡◌, ℕ, ◌+◌, Bool, true, false, not, c
 use Rattle.std.specs.List.{position_or_len, before_first, after_first}
 use Rattle.std.specs.Option.{option_and_then}
 use Rattle.std.proofs.lemmas.Bool.{and_parts, and_right}
-use Rattle.rad_tables.specs.declared.attributes.Space.TheVariants.{Internal}
-use Rattle.rad_tables.specs.Attribute.{same_space}
+use Rattle.rad_words.specs.declared.attributes.Space.TheVariants.{Internal}
+use Rattle.rad_words.specs.Attribute.{same_space}
 use Rattle.rad_value.specs.declared.values.Pair.{Pair}
 use Rattle.rad_value.specs.declared.values.Value.TheVariants.{Text}
 use Rattle.rad_value.specs.declared.edits.EditOp.TheVariants.{Set}

@@ -4,8 +4,8 @@ use Rattle.std.specs.List.{AllByRecursion, before_first, after_first}
 use Rattle.std.proofs.Common.{◌≡◌, ℕ, ◌+◌, Bool, true, false, cond, ◌&&◌, List, [], ◌∷◌, ◌++◌, Option, Some, None, Result, Ok, Err, IsTrue, find, refl, ap, subst, ◌∙◌}
 use Rattle.std.proofs.lemmas.Bool.{and_parts}
 use Rattle.std.proofs.lemmas.Option.{same_Some, cond_some}
-use Rattle.rad_tables.specs.Attribute.{same_attr}
-use Rattle.rad_tables.specs.declared.attributes.AttrId.{AttrId}
+use Rattle.rad_words.specs.Attribute.{same_attr}
+use Rattle.rad_words.specs.declared.attributes.AttrId.{AttrId}
 use Rattle.rad_value.specs.declared.values.Value.{Value}
 use Rattle.rad_value.specs.declared.values.Value.TheVariants.{Text}
 use Rattle.rad_dict.specs.Definitions.{Definitions}

@@ -1,7 +1,7 @@
 -- The attributes that the server's own rules speak of (RFC 2865 section 5; the internal ones after FreeRADIUS).
 use Rattle.std.specs.Prelude.{ℕ}
-use Rattle.rad_tables.specs.declared.attributes.AttrId.{AttrId}
-use Rattle.rad_tables.specs.declared.attributes.Space.TheVariants.{Internal}
+use Rattle.rad_words.specs.declared.attributes.AttrId.{AttrId}
+use Rattle.rad_words.specs.declared.attributes.Space.TheVariants.{Internal}
 use Rattle.rad_wire.specs.Pairs.{standard}
 pub use Rattle.mod_files.specs.LineItems.{cleartext_password}
 

@@ -1,7 +1,7 @@
 -- Edits that a statement or a module does by itself. This project's own, after FreeRADIUS' unlang(5).
 use Rattle.std.specs.Prelude.{ℕ, List, Some, None}
-use Rattle.rad_tables.specs.declared.codes.Code.{Code}
-use Rattle.rad_tables.specs.declared.codes.Code.TheVariants as code
+use Rattle.rad_words.specs.declared.codes.Code.{Code}
+use Rattle.rad_words.specs.declared.codes.Code.TheVariants as code
 use Rattle.rad_value.specs.declared.edits.Edit.{Edit}
 use Rattle.rad_value.specs.declared.edits.EditOp.TheVariants.{Set}
 use Rattle.rad_value.specs.declared.edits.ListName.TheVariants.{Control}

@@ -1,11 +1,11 @@
 -- What a group of statements answers, from the codes of its children, after FreeRADIUS' unlang(5). The order of
 -- priorities is this project's own.
 use Rattle.std.specs.Prelude.{ℕ, Bool, true, false, nat_lt, List, [], ◌∷◌, find, Option, Some, None, option_map, if◌then◌else◌}
-use Rattle.rad_tables.specs.declared.codes.Code.{Code}
-use Rattle.rad_tables.specs.declared.codes.Code.TheVariants as code
-use Rattle.rad_tables.specs.declared.sections.Section.{Section}
-use Rattle.rad_tables.specs.declared.sections.Section.TheVariants as section
-use Rattle.rad_tables.specs.declared.sections.GroupKind.TheVariants.{Plain}
+use Rattle.rad_words.specs.declared.codes.Code.{Code}
+use Rattle.rad_words.specs.declared.codes.Code.TheVariants as code
+use Rattle.rad_words.specs.declared.sections.Section.{Section}
+use Rattle.rad_words.specs.declared.sections.Section.TheVariants as section
+use Rattle.rad_tables.specs.declared.group_kind.GroupKind.TheVariants.{Plain}
 use Rattle.rad_tables.specs.declared.action_table.Action.TheVariants as action
 use Rattle.rad_tables.specs.DefaultActions.{default_action}
 use Rattle.rad_site.specs.declared.judgement.Child.{Child}

@@ -2,10 +2,10 @@
 use Rattle.std.specs.Prelude.{ℕ, Bool, ◌||◌, List, [], ◌∷◌, Option, Some, None, codes, if◌then◌else◌}
 use Rattle.std.specs.Option.{is_none, is_some}
 use Rattle.std.specs.Str.{bytes_eq}
-use Rattle.rad_tables.specs.declared.codes.Code.{Code}
-use Rattle.rad_tables.specs.declared.codes.Code.TheVariants as code
-use Rattle.rad_tables.specs.declared.sections.Section.{Section}
-use Rattle.rad_tables.specs.declared.sections.Section.TheVariants as section
+use Rattle.rad_words.specs.declared.codes.Code.{Code}
+use Rattle.rad_words.specs.declared.codes.Code.TheVariants as code
+use Rattle.rad_words.specs.declared.sections.Section.{Section}
+use Rattle.rad_words.specs.declared.sections.Section.TheVariants as section
 use Rattle.rad_value.specs.Pairs.{first_value, first_text}
 use Rattle.rad_value.specs.PairLists.{PairLists}
 use Rattle.rad_site.specs.Attributes.{user_password, auth_type, cleartext_password}

@@ -1,8 +1,8 @@
 -- What the statements of a section do to the lists of a request, and the section's code. After FreeRADIUS' unlang(5).
 use Rattle.std.specs.Prelude.{List, [], ◌∷◌, unwrap_or, if◌then◌else◌}
-use Rattle.rad_tables.specs.declared.codes.Code.{Code}
-use Rattle.rad_tables.specs.declared.codes.Code.TheVariants as code
-use Rattle.rad_tables.specs.declared.sections.Section.{Section}
+use Rattle.rad_words.specs.declared.codes.Code.{Code}
+use Rattle.rad_words.specs.declared.codes.Code.TheVariants as code
+use Rattle.rad_words.specs.declared.sections.Section.{Section}
 use Rattle.rad_value.specs.PairLists.{PairLists}
 use Rattle.mod_files.specs.declared.entry.Entry.{Entry}
 use Rattle.mod_files.specs.Files.{files_done}

@@ -6,7 +6,7 @@ use Rattle.std.specs.Str.{bytes_eq, str_eq_ignore_ascii_case}
 use Rattle.rad_outside.specs.declared.listen.Peer.{Peer}
 use Rattle.rad_conf.specs.declared.tree.Node.{Node}
 use Rattle.rad_site.specs.declared.fault.BuildFault.{BuildFault}
-use Rattle.rad_tables.specs.declared.sections.Section.TheVariants.{Authorize}
+use Rattle.rad_words.specs.declared.sections.Section.TheVariants.{Authorize}
 use Rattle.rad_site.specs.declared.build.modules.Modules.{Modules}
 use Rattle.rad_site.specs.declared.build.server.Parts.{Parts}
 use Rattle.rad_site.specs.declared.build.server.Server.{Server}

@@ -5,7 +5,7 @@ use Rattle.std.specs.Str.{str_eq_ignore_ascii_case}
 use Rattle.rad_conf.specs.declared.tree.Node.{Node}
 use Rattle.rad_conf.specs.declared.tree.Item.{out-Item}
 use Rattle.rad_conf.specs.declared.tree.Item.TheOpen as level
-use Rattle.rad_tables.specs.declared.sections.Section.TheVariants.{Authenticate}
+use Rattle.rad_words.specs.declared.sections.Section.TheVariants.{Authenticate}
 use Rattle.rad_site.specs.declared.build.modules.Modules.{Modules}
 use Rattle.rad_site.specs.declared.fault.BuildFault.{BuildFault}
 use Rattle.rad_site.specs.declared.statement.Statement.{Statement}

@@ -11,8 +11,8 @@ use crate::statement::{Statement, Subsection};
 use crate::verdict::Verdict;
 use mod_files::Users;
 use rad_outside::NoMemory;
-use rad_tables::{Code, Section};
 use rad_value::{ListName, Lists};
+use rad_words::{Code, Section};
 use std::alloc::Global;
 
 /// What authorize decides by its code, none where the request goes on.

@@ -1,6 +1,6 @@
 //! The attributes that the server's own rules speak of.
 
-use rad_tables::{AttrId, Space};
+use rad_words::{AttrId, Space};
 
 pub(crate) const USER_PASSWORD: AttrId = AttrId {
     space: Space::Standard,

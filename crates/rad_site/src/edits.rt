@@ -5,8 +5,8 @@ ghost use Rattle.rad_site.specs.Edits.{with_edit, auth_type_set};
 
 use crate::attributes::AUTH_TYPE;
 use rad_outside::{NoMemory, Octets};
-use rad_tables::Code;
 use rad_value::{Edit, EditOp, ListName, Lists, Value};
+use rad_words::Code;
 use std::alloc::Global;
 
 /// The edit `&control:Auth-Type := NAME`.

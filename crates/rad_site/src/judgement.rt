@@ -3,7 +3,8 @@
 ghost use Rattle.std.specs.Prelude.{◌≡◌};
 ghost use Rattle.rad_site.specs.Judgement.{child_of, ended_by, priority_of, heavier_of, default_code};
 
-use rad_tables::{Action, Code, GroupKind, Section, default_actions};
+use rad_tables::{Action, GroupKind, default_actions};
+use rad_words::{Code, Section};
 
 /// A statement that gave a code, and the group's action on it.
 #[derive(Clone, Copy, Debug, PartialEq, Eq)]

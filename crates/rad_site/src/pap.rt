@@ -7,8 +7,8 @@ ghost use Rattle.rad_site.specs.Pap.{given_password, known_password, is_idle, co
 use crate::attributes::{AUTH_TYPE, CLEARTEXT_PASSWORD, USER_PASSWORD};
 use crate::edits::set_auth_type;
 use rad_outside::NoMemory;
-use rad_tables::{Code, Section};
 use rad_value::{ListName, Lists};
+use rad_words::{Code, Section};
 use std::alloc::Global;
 
 /// The module's name, which it sets as Auth-Type.

@@ -9,8 +9,8 @@ use crate::pap::pap;
 use crate::statement::Statement;
 use mod_files::Users;
 use rad_outside::NoMemory;
-use rad_tables::{Code, Section};
 use rad_value::Lists;
+use rad_words::{Code, Section};
 use std::alloc::Global;
 
 /// Does a statement, and answers its code. After want of memory the lists are given up.

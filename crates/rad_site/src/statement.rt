@@ -1,5 +1,5 @@
 use rad_outside::Octets;
-use rad_tables::Code;
+use rad_words::Code;
 use sqlite_items::Items;
 
 /// A statement of a section, after unlang(5).

@@ -1,8 +1,8 @@
 -- What a list of actions says of a code: the actions stand in the order of the codes of unlang(5), as
 -- the enum `Code` lists them. This project's own form.
 use Rattle.std.specs.Prelude.{ℕ, List, slice_index_or}
-use Rattle.rad_tables.specs.declared.codes.Code.{Code}
-use Rattle.rad_tables.specs.declared.codes.Code.TheVariants.{Reject, Fail, Ok, Handled, Invalid, Userlock, Notfound, Noop, Updated}
+use Rattle.rad_words.specs.declared.codes.Code.{Code}
+use Rattle.rad_words.specs.declared.codes.Code.TheVariants.{Reject, Fail, Ok, Handled, Invalid, Userlock, Notfound, Noop, Updated}
 use Rattle.rad_tables.specs.declared.action_table.Action.{Action}
 use Rattle.rad_tables.specs.declared.action_table.Action.TheVariants.{Return}
 

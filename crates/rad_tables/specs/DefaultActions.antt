@@ -1,11 +1,11 @@
 -- The default action of a group on the code of a child, by the kind of the group and the section that
 -- it stands in. This project's own table, after FreeRADIUS 3 and unlang(5).
-use Rattle.rad_tables.specs.declared.codes.Code.{Code}
-use Rattle.rad_tables.specs.declared.codes.Code.TheVariants.{Reject, Fail, Ok, Handled, Invalid, Userlock, Notfound, Noop, Updated}
-use Rattle.rad_tables.specs.declared.sections.Section.{Section}
-use Rattle.rad_tables.specs.declared.sections.Section.TheVariants.{Authorize, Authenticate, Session, Preacct, Accounting, PostAuth}
-use Rattle.rad_tables.specs.declared.sections.GroupKind.{GroupKind}
-use Rattle.rad_tables.specs.declared.sections.GroupKind.TheVariants.{Plain, Redundant}
+use Rattle.rad_words.specs.declared.codes.Code.{Code}
+use Rattle.rad_words.specs.declared.codes.Code.TheVariants.{Reject, Fail, Ok, Handled, Invalid, Userlock, Notfound, Noop, Updated}
+use Rattle.rad_words.specs.declared.sections.Section.{Section}
+use Rattle.rad_words.specs.declared.sections.Section.TheVariants.{Authorize, Authenticate, Session, Preacct, Accounting, PostAuth}
+use Rattle.rad_tables.specs.declared.group_kind.GroupKind.{GroupKind}
+use Rattle.rad_tables.specs.declared.group_kind.GroupKind.TheVariants.{Plain, Redundant}
 use Rattle.rad_tables.specs.declared.action_table.Action.{Action}
 use Rattle.rad_tables.specs.declared.action_table.Action.TheVariants.{Return, Priority}
 

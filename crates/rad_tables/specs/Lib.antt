@@ -1,4 +1,4 @@
+pub use Rattle.rad_words.specs.Attribute
+pub use Rattle.rad_words.specs.Names
 pub mod ActionList
-pub mod Attribute
 pub mod DefaultActions
-pub mod Names

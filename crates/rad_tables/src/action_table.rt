@@ -1,10 +1,11 @@
 ghost use Rattle.std.specs.Prelude.{◌≡◌, length};
-ghost use Rattle.rad_tables.specs.declared.codes.Code.{Code};
+ghost use Rattle.rad_words.specs.declared.codes.Code.{Code};
 ghost use Rattle.rad_tables.specs.ActionList.{action_of};
 ghost use Rattle.rad_tables.specs.DefaultActions.{default_action};
 
 use crate::default_columns::default_action;
-use crate::{Code, GroupKind, Section};
+use crate::group_kind::GroupKind;
+use rad_words::{Code, Section};
 use std::marker::Model;
 
 /// What a group does on the code of a child: it ends with that code, it ends with `reject`, or it goes

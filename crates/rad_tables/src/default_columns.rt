@@ -1,7 +1,9 @@
 ghost use Rattle.std.specs.Prelude.{◌≡◌};
 ghost use Rattle.rad_tables.specs.DefaultActions.{default_action};
 
-use crate::{Action, Code, GroupKind, Section};
+use crate::action_table::Action;
+use crate::group_kind::GroupKind;
+use rad_words::{Code, Section};
 
 /// The default action on `code` in a group of this kind in this section.
 pub(crate) fn default_action(section: Section, kind: GroupKind, code: Code) -> Action

@@ -1,8 +1,8 @@
 -- The pairs of one attribute in a list of pairs, and the text of the first. This project's own words.
 use Rattle.std.specs.Prelude.{ℕ, Bool, List, Option, Some, None, filter, map, slice_get}
 use Rattle.std.specs.Option.{option_and_then}
-use Rattle.rad_tables.specs.declared.attributes.AttrId.{AttrId}
-use Rattle.rad_tables.specs.Attribute.{same_attr}
+use Rattle.rad_words.specs.declared.attributes.AttrId.{AttrId}
+use Rattle.rad_words.specs.Attribute.{same_attr}
 use Rattle.rad_value.specs.declared.values.Pair.{Pair}
 use Rattle.rad_value.specs.declared.values.Value.{Value}
 use Rattle.rad_value.specs.declared.values.Value.TheVariants as value

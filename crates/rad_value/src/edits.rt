@@ -1,6 +1,6 @@
 use crate::Value;
 use rad_outside::NoMemory;
-use rad_tables::AttrId;
+use rad_words::AttrId;
 use std::alloc::AllocFailed;
 use thiserror::Error;
 

@@ -9,7 +9,7 @@ ghost use Rattle.rad_value.specs.Edit.{has_attr, edited, edited_by, pair_of, IsF
 use crate::edits::{Edit, EditFault, EditOp};
 use crate::{Pair, Value};
 use rad_outside::NoMemory;
-use rad_tables::AttrId;
+use rad_words::AttrId;
 use std::alloc::Global;
 
 /// An edit adds no pair to a list of so many.

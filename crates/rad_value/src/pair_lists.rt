@@ -6,7 +6,7 @@ ghost use Rattle.rad_value.specs.Pairs.{pairs_of, values_of, first_text};
 
 use crate::{Edit, EditFault, ListName, Pair, Updated, Value, listed};
 use rad_outside::NoMemory;
-use rad_tables::AttrId;
+use rad_words::AttrId;
 use std::alloc::Global;
 use std::marker::Model;
 

@@ -3,7 +3,7 @@ ghost use Rattle.std.specs.Option.{option_copied};
 ghost use Rattle.rad_value.specs.Pairs.{text_of};
 
 use rad_outside::{NoMemory, Octets};
-use rad_tables::AttrId;
+use rad_words::AttrId;
 use std::alloc::Global;
 
 /// An attribute's value, of the kind that its attribute has (RFC 2865 section 5): text and octets as they

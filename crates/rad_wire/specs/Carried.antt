@@ -1,8 +1,8 @@
 -- Which pairs come back from a reply as they were: RFC 2865 sections 5 and 5.26.
 use Rattle.std.specs.Prelude.{ℕ, ◌≡◌, ◌≢◌, ◌<◌, ◌≤◌, ◌^◌, List, [], length, map}
 use Rattle.std.specs.List.{flat_map}
-use Rattle.rad_tables.specs.declared.attributes.Space.{Space}
-use Rattle.rad_tables.specs.declared.attributes.Space.TheVariants.{Standard, Vendor, Internal}
+use Rattle.rad_words.specs.declared.attributes.Space.{Space}
+use Rattle.rad_words.specs.declared.attributes.Space.TheVariants.{Standard, Vendor, Internal}
 use Rattle.rad_value.specs.declared.values.Pair.{Pair}
 use Rattle.rad_value.specs.declared.values.Value.{Value}
 use Rattle.rad_value.specs.declared.values.Value.TheVariants as values

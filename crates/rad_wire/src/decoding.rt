@@ -13,8 +13,8 @@ use crate::vendor::push_vendor_pairs;
 use crate::wire_value::{kind_of, value_of};
 use rad_dict::Dict;
 use rad_outside::{NoMemory, Octets};
-use rad_tables::{AttrId, Space};
 use rad_value::{ListName, Lists, Pair, Value};
+use rad_words::{AttrId, Space};
 use std::alloc::Global;
 
 /// The code of an Access-Request (RFC 2865 section 4.1).

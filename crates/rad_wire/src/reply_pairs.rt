@@ -9,8 +9,8 @@ ghost use Rattle.rad_wire.specs.Reply.{attributes_for, fitting, is_left_out, sen
 
 use crate::decoding::VENDOR_SPECIFIC;
 use rad_outside::NoMemory;
-use rad_tables::{AttrId, Space};
 use rad_value::{ListName, Lists, Pair, Value};
+use rad_words::{AttrId, Space};
 
 /// The most octets of a value (RFC 2865 section 5).
 const LONGEST_VALUE: usize = 253;

@@ -9,8 +9,8 @@ use crate::attributes::{are_attributes, split_front};
 use crate::wire_value::{kind_of, number_of, value_of};
 use rad_dict::Dict;
 use rad_outside::{NoMemory, Octets};
-use rad_tables::{AttrId, Space};
 use rad_value::{ListName, Lists, Pair, Value};
+use rad_words::{AttrId, Space};
 use std::alloc::Global;
 
 /// The octets of a Vendor-Id.

@@ -7,8 +7,8 @@ ghost use Rattle.rad_wire.specs.Values.{value_of};
 
 use rad_dict::Dict;
 use rad_outside::{NoMemory, Octets};
-use rad_tables::{AttrId, Kind};
 use rad_value::Value;
+use rad_words::{AttrId, Kind};
 use std::alloc::Global;
 
 /// The kind of an attribute's values: that of its first definition, and octets where it has none.

@@ -13,7 +13,7 @@ use crate::fault::BuildFault;
 use crate::statement::{Statements, Subsections};
 use rad_conf::Node;
 use rad_outside::{Octets, Peer, Place};
-use rad_tables::Section;
+use rad_words::Section;
 use std::alloc::Global;
 
 /// What is known of a server: where its listener is bound, and its sections.

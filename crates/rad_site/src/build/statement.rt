@@ -10,7 +10,7 @@ use crate::fault::BuildFault;
 use crate::statement::{Statement, Statements};
 use rad_conf::{Item, Node};
 use rad_outside::{Octets, Place};
-use rad_tables::{Code, Section};
+use rad_words::{Code, Section};
 use std::alloc::Global;
 
 /// The return code of this name, in any case of its ASCII letters.

@@ -15,7 +15,7 @@ use crate::fault::BuildFault;
 use crate::statement::{Statements, Subsection, Subsections};
 use rad_conf::{Item, Node};
 use rad_outside::Octets;
-use rad_tables::Section;
+use rad_words::Section;
 use std::alloc::Global;
 
 /// The name of a subsection: that of its block, or the word of a statement that stands alone.

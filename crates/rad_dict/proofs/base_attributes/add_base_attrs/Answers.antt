@@ -1,8 +1,8 @@
 use Rattle.std.proofs.Common.{◌≡◌, ◌++◌, List, Result, IfOk, refl, subst, append_assoc, ap, ◌∙◌}
-use Rattle.rad_tables.specs.declared.attributes.Space.{Space}
-use Rattle.rad_tables.specs.declared.attributes.Space.TheVariants.{Standard, Internal}
-use Rattle.rad_tables.specs.declared.attributes.Kind.{Kind}
-use Rattle.rad_tables.specs.Names.{Row}
+use Rattle.rad_words.specs.declared.attributes.Space.{Space}
+use Rattle.rad_words.specs.declared.attributes.Space.TheVariants.{Standard, Internal}
+use Rattle.rad_words.specs.declared.attributes.Kind.{Kind}
+use Rattle.rad_words.specs.Names.{Row}
 use Rattle.rad_dict.specs.declared.definitions.AttrDef.{AttrDef}
 use Rattle.rad_dict.specs.Definitions.{Definitions}
 use Rattle.rad_dict.specs.Rows.{attrs_of}

@@ -1,5 +1,5 @@
 use Rattle.std.proofs.Common.{◌≡◌, ℕ, ◌++◌, List, Result, IfOk, refl, subst, append_assoc, ap, ◌∙◌}
-use Rattle.rad_tables.specs.Names.{Row}
+use Rattle.rad_words.specs.Names.{Row}
 use Rattle.rad_dict.specs.declared.definitions.ValueDef.{ValueDef}
 use Rattle.rad_dict.specs.Definitions.{Definitions}
 use Rattle.rad_dict.specs.Rows.{values_of}

@@ -1,5 +1,5 @@
 use Rattle.std.proofs.Common.{◌≡◌, ◌++◌, map, drop}
-use Rattle.rad_tables.specs.Names.{row_of}
+use Rattle.rad_words.specs.Names.{row_of}
 use Rattle.rad_dict.specs.Rows.{values_of}
 use Rattle.rad_dict.proofs.base_values.add_rows.Given as goal
 

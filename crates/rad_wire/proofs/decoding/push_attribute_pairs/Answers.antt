@@ -1,8 +1,8 @@
 use Rattle.std.specs.Prelude.{◌⊎◌, ◌==◌}
 use Rattle.std.proofs.Common.{◌≡◌, false, [], ◌∷◌, sym, ◌∙◌, inl, inr}
 use Rattle.std.proofs.lemmas.Bool.{ne_eqb}
-use Rattle.rad_tables.specs.declared.attributes.AttrId.{AttrId}
-use Rattle.rad_tables.specs.declared.attributes.Space.TheVariants.{Standard}
+use Rattle.rad_words.specs.declared.attributes.AttrId.{AttrId}
+use Rattle.rad_words.specs.declared.attributes.Space.TheVariants.{Standard}
 use Rattle.rad_wire.specs.Packet.{code_of}
 use Rattle.rad_wire.specs.Pairs.{attribute_pairs}
 use Rattle.rad_wire.proofs.AttributePairs.{attribute, of_vendors, of_password, of_others}

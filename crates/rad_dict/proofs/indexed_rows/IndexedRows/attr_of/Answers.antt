@@ -4,7 +4,7 @@ use Rattle.rad_dict.specs.declared.definitions.AttrDef.{AttrDef}
 use Rattle.rad_dict.specs.Definitions.{Definitions}
 use Rattle.rad_dict.specs.Places.{places_of}
 use Rattle.rad_dict.specs.Search.{found_at}
-use Rattle.rad_tables.specs.Attribute.{same_attr}
+use Rattle.rad_words.specs.Attribute.{same_attr}
 use Rattle.rad_dict.specs.Keys.{by_attr, attr_key}
 use Rattle.rad_dict.proofs.Indexed.{looked_up, by_attr_only}
 use Rattle.rad_dict.proofs.indexed_rows.IndexedRows.attr_of.Goals as goal

@@ -1,7 +1,7 @@
 use Rattle.std.proofs.Common.{map}
-use Rattle.rad_tables.specs.Names.{row_of}
-use Rattle.rad_tables.proofs.Inverse.{answered_name}
-use Rattle.rad_tables.proofs.names.Names.name.Goals as goal
+use Rattle.rad_words.specs.Names.{row_of}
+use Rattle.rad_words.proofs.Inverse.{answered_name}
+use Rattle.rad_words.proofs.names.Names.name.Goals as goal
 
 pub returns-clause-inverse : goal.returns-clause-inverse
 returns-clause-inverse g c =

@@ -3,7 +3,7 @@
 ghost use Rattle.std.specs.Prelude.{◌≡◌, length, map, IsTrue, IfSome, Some};
 ghost use Rattle.std.specs.Option.{option_copied};
 ghost use Rattle.std.specs.Str.{str_eq_ignore_ascii_case};
-ghost use Rattle.rad_tables.specs.Names.{row_of, differ, number_in, name_in, IsNamedIn, AreInverse};
+ghost use Rattle.rad_words.specs.Names.{row_of, differ, number_in, name_in, IsNamedIn, AreInverse};
 
 use std::marker::Model;
 
@@ -27,7 +27,7 @@ pub struct Names<const N: usize> {
 
 impl<const N: usize> Model for Names<N> {
     ghost use Rattle.std.specs.Prelude.{◌≡◌, List, map, length, IsTrue};
-    ghost use Rattle.rad_tables.specs.Names.{Row, row_of, differ};
+    ghost use Rattle.rad_words.specs.Names.{Row, row_of, differ};
 
     ghost Value = { List Row };
 

@@ -1,8 +1,8 @@
 -- When two attributes are the same: one space, of one vendor there, and one number (RFC 2865 section 5).
 use Rattle.std.specs.Prelude.{Bool, true, false, ◌&&◌, ◌==◌}
-use Rattle.rad_tables.specs.declared.attributes.AttrId.{AttrId}
-use Rattle.rad_tables.specs.declared.attributes.Space.{Space}
-use Rattle.rad_tables.specs.declared.attributes.Space.TheVariants.{Standard, Vendor, Internal}
+use Rattle.rad_words.specs.declared.attributes.AttrId.{AttrId}
+use Rattle.rad_words.specs.declared.attributes.Space.{Space}
+use Rattle.rad_words.specs.declared.attributes.Space.TheVariants.{Standard, Vendor, Internal}
 
 abbrev pub same_space : Space → Space → Bool
 same_space Standard Standard = true

@@ -6,7 +6,7 @@ use Rattle.std.specs.Option.{option_copied}
 use Rattle.std.specs.Str.{str_to_ascii_lowercase, str_eq_ignore_ascii_case}
 use Rattle.std.proofs.lemmas.Bool.{false≢true, eqb-true}
 use Rattle.std.proofs.lemmas.Slice.Eq.{bytes_eq-Decides}
-use Rattle.rad_tables.specs.Names.{Row, is_named, is_numbered, number_in, name_in, names_differ, numbers_differ, differ, IsNamedIn, AreInverse}
+use Rattle.rad_words.specs.Names.{Row, is_named, is_numbered, number_in, name_in, names_differ, numbers_differ, differ, IsNamedIn, AreInverse}
 
 or_true : (a : Bool) → (a || true) ≡ true
 or_true true = refl
