@@ -1,8 +1,8 @@
 -- A legal history in which each fresh start has its finish answers each authentic arrival once.
 use Rattle.std.proofs.Common.{ℕ, ◌≡◌, ◌⊎◌, List, [], ◌∷◌, true, false, cond, Option, Some, inl, inr, refl, ap, sym, subst}
 use Rattle.std.specs.List.{AllByRecursion}
-use Rattle.rad_wire.specs.Authentic.{IsAuthentic}
-use Rattle.rad_wire.proofs.Datagrams.{cause_without_authentic}
+use Rattle.rad_packet.specs.Authentic.{IsAuthentic}
+use Rattle.rad_packet.proofs.Datagrams.{cause_without_authentic}
 use Rattle.rad_core.specs.declared.arrival.Arrived.{Arrived}
 use Rattle.rad_core.specs.declared.ending.Ending.{Ending}
 use Rattle.rad_core.specs.declared.ending.Ending.TheVariants.{Sent, Withheld, OutOfMemory}

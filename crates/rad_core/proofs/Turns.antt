@@ -3,7 +3,7 @@ use Rattle.std.proofs.Common.{ℕ, ◌≡◌, ◌==◌, List, [], ◌∷◌, ◌
 use Rattle.std.specs.List.{Contains}
 use Rattle.std.specs.Arc.{arc_value}
 use Rattle.std.proofs.lemmas.List.Elements.{Contains-push}
-use Rattle.rad_wire.specs.declared.cause.DropCause.{DropCause}
+use Rattle.rad_packet.specs.declared.cause.DropCause.{DropCause}
 use Rattle.rad_core.specs.declared.arrival.Arrived.{Arrived}
 use Rattle.rad_core.specs.declared.ending.Ending.{Ending}
 use Rattle.rad_core.specs.declared.ending.Ending.TheVariants.{Sent, Withheld, OutOfMemory}

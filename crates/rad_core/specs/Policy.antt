@@ -1,7 +1,7 @@
 -- What a policy means. This project's own, after FreeRADIUS' radiusd.conf(5) and unlang(5).
 use Rattle.std.specs.Prelude.{ℕ, ◌≡◌, ◌⊎◌, List, Bool, Option, Result, Ok, Err}
 use Rattle.rad_outside.specs.Files.{File}
-use Rattle.rad_wire.specs.declared.client.Client.{Client}
+use Rattle.rad_packet.specs.declared.client.Client.{Client}
 use Rattle.rad_core.specs.declared.arrival.Arrived.{Arrived}
 
 -- What a site is built from: the map of its files, and its folder.

@@ -2,9 +2,9 @@
 use Rattle.std.specs.Prelude.{ℕ, ◌≡◌, ◌+◌, ◌⊎◌, List, [], ◌∷◌, Option, Some, None, Result, Ok, Err, Bool, true, if◌then◌else◌, All, Contains}
 use Rattle.rad_outside.specs.declared.listen.Listen.{Listen}
 use Rattle.rad_outside.specs.declared.listen.ListenKind.TheVariants.{Auth, Acct, Control}
-use Rattle.rad_wire.specs.declared.cause.DropCause.{DropCause}
-use Rattle.rad_wire.specs.Packet.{packet_of}
-use Rattle.rad_wire.specs.Authentic.{IsFirstCause, IsAuthentic}
+use Rattle.rad_packet.specs.declared.cause.DropCause.{DropCause}
+use Rattle.rad_packet.specs.Packet.{packet_of}
+use Rattle.rad_packet.specs.Authentic.{IsFirstCause, IsAuthentic}
 use Rattle.rad_core.specs.declared.arrival.Arrived.{Arrived}
 use Rattle.rad_core.specs.declared.installed.Installed.{Installed}
 use Rattle.rad_core.specs.declared.installed.Installed.TheVariants as installed

@@ -10,7 +10,7 @@ ghost use Rattle.rad_core.specs.Answers.{arrived_of, GivesOutcome, FitsDatagram}
 use crate::arrival::Arrival;
 use crate::outcome::Outcome;
 use rad_outside::{Files, Shelf};
-use rad_wire::Client;
+use rad_packet::Client;
 use std::alloc::Global;
 
 /// A generation of a site: what it answers to a request.

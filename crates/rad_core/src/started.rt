@@ -1,4 +1,4 @@
-use rad_wire::DropCause;
+use rad_packet::DropCause;
 use std::sync::Arc;
 
 /// A fresh request: its place in the history, and the generation and the moment of that place.

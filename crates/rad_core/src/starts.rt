@@ -12,7 +12,7 @@ use crate::policy::Policy;
 use crate::row::Row;
 use crate::started::{Started, Ticket};
 use rad_outside::NoMemory;
-use rad_wire::{DropCause, check};
+use rad_packet::{DropCause, check};
 use std::sync::Arc;
 
 const LAST_MOMENT: u64 = 250_000_000_000;

@@ -1,7 +1,7 @@
 -- What a site answers, from the outcome that was made.
 use Rattle.std.proofs.Common.{ℕ, ◌≡◌, List, [], refl, ap, ◌∙◌}
 use Rattle.rad_value.specs.PairLists.{PairLists}
-use Rattle.rad_wire.specs.Packet.{packet_of}
+use Rattle.rad_packet.specs.Packet.{packet_of}
 use Rattle.rad_wire.specs.Pairs.{pairs_of, requested}
 use Rattle.rad_core.specs.declared.arrival.Arrived.{Arrived}
 use Rattle.rad_core.specs.declared.outcome.Outcome.{Outcome}

@@ -3,7 +3,7 @@ use Rattle.std.proofs.Common.{◌≡◌, ℕ, List, Option, Result, Ok, sym, ap}
 use Rattle.rad_outside.specs.Files.{FilesTold}
 use Rattle.rad_dict.specs.Definitions.{Definitions}
 use Rattle.rad_conf.specs.declared.tree.Node.{Node}
-use Rattle.rad_wire.specs.declared.client.Client.{Client}
+use Rattle.rad_packet.specs.declared.client.Client.{Client}
 use Rattle.rad_site.specs.declared.fault.BuildFault.{BuildFault}
 use Rattle.rad_site.specs.Site.{Site}
 use Rattle.rad_site.specs.Nodes.{◌>>=◌}

@@ -4,7 +4,7 @@ use Rattle.std.specs.Option.{is_none}
 use Rattle.std.specs.Str.{bytes_eq}
 use Rattle.rad_pairs.specs.ValueReading.{address_of}
 use Rattle.rad_conf.specs.declared.tree.Node.{Node}
-use Rattle.rad_wire.specs.declared.client.Client.{Client}
+use Rattle.rad_packet.specs.declared.client.Client.{Client}
 use Rattle.rad_site.specs.declared.fault.BuildFault.{BuildFault}
 use Rattle.rad_site.specs.declared.build.client.Settings.{Settings}
 use Rattle.rad_site.specs.Nodes.{◌>>=◌, refused, needed, after_each}

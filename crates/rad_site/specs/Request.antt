@@ -3,8 +3,8 @@ use Rattle.std.specs.Prelude.{ℕ, ◌≡◌, ◌==◌, List, [], Bool, Option, 
 use Rattle.std.specs.Str.{bytes_eq}
 use Rattle.std.specs.Arc.{arc_value}
 use Rattle.rad_value.specs.PairLists.{PairLists}
-use Rattle.rad_wire.specs.declared.client.Client.{Client}
-use Rattle.rad_wire.specs.Packet.{packet_of}
+use Rattle.rad_packet.specs.declared.client.Client.{Client}
+use Rattle.rad_packet.specs.Packet.{packet_of}
 use Rattle.rad_wire.specs.Pairs.{pairs_of, requested}
 use Rattle.rad_wire.specs.Reply.{reply_octets}
 use Rattle.rad_core.specs.declared.arrival.Arrived.{Arrived}

@@ -2,7 +2,7 @@
 use Rattle.std.specs.Prelude.{ℕ, List}
 use Rattle.rad_outside.specs.declared.listen.Peer.{Peer}
 use Rattle.rad_dict.specs.Definitions.{Definitions}
-use Rattle.rad_wire.specs.declared.client.Client.{Client}
+use Rattle.rad_packet.specs.declared.client.Client.{Client}
 use Rattle.mod_files.specs.declared.entry.Entry.{Entry}
 use Rattle.rad_site.specs.declared.statement.Statement.{Statement}
 use Rattle.rad_site.specs.declared.statement.Subsection.{Subsection}

@@ -4,7 +4,7 @@ use crate::statement::{Statements, Subsections};
 use mod_files::Users;
 use rad_dict::Dict;
 use rad_outside::{Octets, Peer};
-use rad_wire::Client;
+use rad_packet::Client;
 use std::marker::Model;
 
 /// A generation of a site: a dictionary, one client with one address, the users of a file, and one server with one

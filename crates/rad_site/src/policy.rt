@@ -14,7 +14,8 @@ use crate::statement::{Statement, Subsection};
 use rad_conf::read_conf;
 use rad_core::{Arrival, Outcome, Policy};
 use rad_outside::{Files, NoMemory, Shelf};
-use rad_wire::{Client, check, decode};
+use rad_packet::{Client, check};
+use rad_wire::decode;
 use std::alloc::Global;
 
 impl Policy for Generation {

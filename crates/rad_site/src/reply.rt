@@ -2,7 +2,7 @@
 
 ghost use Rattle.std.specs.Prelude.{◌≡◌, ◌+◌, ◌<◌, ◌≤◌, ◌^◌, ◌++◌, length, IfOk, OnOk};
 ghost use Rattle.rad_value.specs.PairLists.{with_list};
-ghost use Rattle.rad_wire.specs.Octets.{IsChecked};
+ghost use Rattle.rad_packet.specs.Octets.{IsChecked};
 ghost use Rattle.rad_wire.specs.Reply.{reply_octets};
 ghost use Rattle.rad_core.specs.Answers.{FitsDatagram};
 ghost use Rattle.rad_core.specs.Policy.{Replies};
@@ -13,8 +13,9 @@ use crate::attributes::REPLY_MESSAGE;
 use crate::verdict::Verdict;
 use rad_core::Outcome;
 use rad_outside::NoMemory;
+use rad_packet::Checked;
 use rad_value::{ListName, Lists, Pair};
-use rad_wire::{Checked, reply_bytes};
+use rad_wire::reply_bytes;
 use std::alloc::Global;
 use std::sync::Arc;
 

@@ -8,7 +8,7 @@ use Rattle.std.proofs.lemmas.Bool.{eq-eqb, ne_eqb}
 use Rattle.std.proofs.lemmas.List.{length-drop, length-map}
 use Rattle.rad_value.specs.declared.values.Pair.{Pair}
 use Rattle.rad_dict.specs.Definitions.{Definitions}
-use Rattle.rad_wire.specs.Packet.{Attribute, spelled, attributes_in, authenticator_of, code_of}
+use Rattle.rad_packet.specs.Packet.{Attribute, spelled, attributes_in, authenticator_of, code_of}
 use Rattle.rad_wire.specs.Pairs.{attribute_pairs, of_vendor, pair_of, password_of, standard, vendor_of, vendor_pairs, vendor_parts}
 use Rattle.rad_wire.proofs.VendorParts.{parts_count}
 

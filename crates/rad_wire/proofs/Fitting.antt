@@ -10,7 +10,7 @@ use Rattle.std.proofs.lemmas.Grind.{flat_map-append}
 use Rattle.rad_words.specs.declared.attributes.Space.{Space}
 use Rattle.rad_words.specs.declared.attributes.Space.TheVariants.{Standard, Vendor, Internal}
 use Rattle.rad_value.specs.declared.values.Pair.{Pair}
-use Rattle.rad_wire.specs.Packet.{Attribute, spelled}
+use Rattle.rad_packet.specs.Packet.{Attribute, spelled}
 use Rattle.rad_wire.specs.Appended.{IsAppended}
 use Rattle.rad_wire.specs.Reply.{attributes_for, fitting, is_left_out, sent_attributes}
 

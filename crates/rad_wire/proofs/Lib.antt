@@ -1,11 +1,5 @@
-pub mod AttributeLists
-pub mod Walks
-pub mod Datagrams
 pub mod ProxyStates
 pub mod Replies
-pub mod HiddenBlocks
-pub mod TrailingZeros
-pub mod HidingUndone
 pub mod VendorParts
 pub mod PairWalks
 pub mod Fitting

@@ -6,10 +6,10 @@ use Rattle.rad_value.specs.declared.edits.ListName.TheVariants.{Request}
 use Rattle.rad_value.specs.declared.values.Pair.{Pair}
 use Rattle.rad_value.specs.PairLists.{PairLists, with_list}
 use Rattle.rad_dict.specs.Definitions.{Definitions}
-use Rattle.rad_wire.specs.Packet.{Attribute, AreAttributes}
+use Rattle.rad_packet.specs.Packet.{Attribute, AreAttributes}
 use Rattle.rad_wire.specs.Pairs.{of_vendor, pair_of}
-use Rattle.rad_wire.specs.Front.{IsFront, IsSplit}
-use Rattle.rad_wire.proofs.Walks.{Makes, Makes-start, Makes-more, Makes-end, split_length}
+use Rattle.rad_packet.specs.Front.{IsFront, IsSplit}
+use Rattle.rad_packet.proofs.Walks.{Makes, Makes-start, Makes-more, Makes-end, split_length}
 
 -- the request list has the pairs that f makes of the attributes so far, and the other lists stay
 pub record MakesPairs (f : Attribute → List Pair) (start : PairLists) (whole rest : List ℕ) (lists : PairLists) : Type 0 where

@@ -4,11 +4,11 @@ use Rattle.std.specs.Prelude.{◌==◌, filter}
 use Rattle.std.specs.List.{flat_map}
 use Rattle.std.proofs.lemmas.Bool.{eq-eqb, ne_eqb}
 use Rattle.std.proofs.lemmas.List.{length-append, length-drop}
-use Rattle.rad_wire.specs.Packet.{Attribute, spelled, AreAttributes, IsWellFormed}
-use Rattle.rad_wire.specs.Front.{IsFront, IsSplit}
-use Rattle.rad_wire.specs.Octets.{proxy_octets, proxy_states}
-use Rattle.rad_wire.proofs.AttributeLists.{packet_reading}
-use Rattle.rad_wire.proofs.Walks.{Makes, Makes-start, Makes-more, Makes-end, split_length}
+use Rattle.rad_packet.specs.Packet.{Attribute, spelled, AreAttributes, IsWellFormed}
+use Rattle.rad_packet.specs.Front.{IsFront, IsSplit}
+use Rattle.rad_packet.specs.Octets.{proxy_octets, proxy_states}
+use Rattle.rad_packet.proofs.AttributeLists.{packet_reading}
+use Rattle.rad_packet.proofs.Walks.{Makes, Makes-start, Makes-more, Makes-end, split_length}
 
 -- one attribute's part
 abbrev pub proxy_part : ℕ → List ℕ → List ℕ

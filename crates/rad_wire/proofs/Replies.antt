@@ -11,11 +11,11 @@ use Rattle.md5.proofs.StandardFacts.{length-md5}
 use Rattle.rad_words.specs.declared.attributes.Space.{Space}
 use Rattle.rad_words.specs.declared.attributes.Space.TheVariants.{Standard, Vendor, Internal}
 use Rattle.rad_value.specs.declared.values.Pair.{Pair}
-use Rattle.rad_wire.specs.Packet.{Attribute, AreAttributes, IsPacket, IsWellFormed, authenticator_of, code_of, id_of, spelled}
-use Rattle.rad_wire.specs.Octets.{proxy_states, reply_head, response_authenticator, signed_reply}
+use Rattle.rad_packet.specs.Packet.{Attribute, AreAttributes, IsPacket, IsWellFormed, authenticator_of, code_of, id_of, spelled}
+use Rattle.rad_packet.specs.Octets.{proxy_states, reply_head, response_authenticator, signed_reply}
 use Rattle.rad_wire.specs.Reply.{attributes_for, fitting, is_left_out, proxy_state_attributes, reply_attributes, reply_octets, room_beside, sent_attributes}
 use Rattle.rad_wire.specs.Values.{octets_of}
-use Rattle.rad_wire.proofs.AttributeLists.{packet_reading}
+use Rattle.rad_packet.proofs.AttributeLists.{packet_reading}
 use Rattle.rad_wire.proofs.Fitting.{pairs_written, taken}
 use Rattle.rad_wire.proofs.ProxyStates.{states_short}
 

@@ -16,13 +16,13 @@ use Rattle.rad_value.specs.declared.values.Pair.{Pair}
 use Rattle.rad_value.specs.declared.values.Value.{Value}
 use Rattle.rad_value.specs.declared.values.Value.TheVariants as values
 use Rattle.rad_dict.specs.Definitions.{Definitions}
-use Rattle.rad_wire.specs.Packet.{Attribute, AreAttributes, IsWellFormed, attributes_of, spelled}
+use Rattle.rad_packet.specs.Packet.{Attribute, AreAttributes, IsWellFormed, attributes_of, spelled}
 use Rattle.rad_wire.specs.Pairs.{attribute_pairs, kind_of, of_vendor, pair_of, pairs_of, standard, vendor_of, vendor_pairs, vendor_parts}
 use Rattle.rad_wire.specs.Reply.{attributes_for, fitting, is_left_out, proxy_state_attributes, reply_attributes, reply_octets, room_beside, sent_attributes}
 use Rattle.rad_wire.specs.Values.{octets_of, value_of}
 use Rattle.rad_wire.specs.Carried.{FitBeside, HasNoParts, IsCarried, IsInRange, IsUncut, proxy_state_pairs}
 use Rattle.rad_value.specs.Kinds.{kind_of_value}
-use Rattle.rad_wire.proofs.AttributeLists.{packet_reading}
+use Rattle.rad_packet.proofs.AttributeLists.{packet_reading}
 use Rattle.rad_wire.proofs.AttributePairs.{attribute, of_others, of_vendors}
 use Rattle.rad_wire.proofs.Fitting.{fitting-fit, taken}
 use Rattle.rad_wire.proofs.Replies.{reply_packet}

@@ -8,9 +8,9 @@ use Rattle.std.proofs.lemmas.Bool.{cases_lt, eq-eqb}
 use Rattle.std.proofs.lemmas.List.{length-append, length-drop, get_or-append-add, get_or_past, nil_from_length}
 use Rattle.std.proofs.lemmas.List.Elements.{All-drop, All-get_or}
 use Rattle.rad_dict.specs.Definitions.{Definitions}
-use Rattle.rad_wire.specs.Packet.{Attribute, spelled, AreAttributes, attributes_in}
+use Rattle.rad_packet.specs.Packet.{Attribute, spelled, AreAttributes, attributes_in}
 use Rattle.rad_wire.specs.Pairs.{of_vendor, pair_of, vendor_of, vendor_pairs, vendor_parts}
-use Rattle.rad_wire.proofs.AttributeLists.{one_reading}
+use Rattle.rad_packet.proofs.AttributeLists.{one_reading}
 
 -- ---- reading the parts
 

@@ -1,7 +1,7 @@
 -- Attributes written at the end of octets, where they fit. This project's own.
 use Rattle.std.specs.Prelude.{ℕ, ◌≡◌, ◌+◌, Bool, nat_le, if◌then◌else◌, List, ◌++◌, length}
 use Rattle.std.specs.List.{flat_map}
-use Rattle.rad_wire.specs.Packet.{Attribute, spelled}
+use Rattle.rad_packet.specs.Packet.{Attribute, spelled}
 
 -- These attributes were written at the end of octets if they fit up to this limit, and whether they did.
 pub record IsAppended (limit : ℕ) (before after : List ℕ) (attributes : List Attribute) (fit : Bool) : Type 0 where

@@ -8,7 +8,7 @@ use Rattle.rad_value.specs.declared.values.Value.{Value}
 use Rattle.rad_value.specs.declared.values.Value.TheVariants as values
 use Rattle.rad_value.specs.Kinds.{kind_of_value}
 use Rattle.rad_dict.specs.Definitions.{Definitions}
-use Rattle.rad_wire.specs.Packet.{Attribute, spelled}
+use Rattle.rad_packet.specs.Packet.{Attribute, spelled}
 use Rattle.rad_wire.specs.Pairs.{kind_of, pair_of, standard, vendor_parts}
 use Rattle.rad_wire.specs.Reply.{attributes_for, proxy_state_attributes, room_beside}
 use Rattle.rad_wire.specs.Values.{octets_of}

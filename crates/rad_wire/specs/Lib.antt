@@ -1,8 +1,8 @@
-pub mod Packet
-pub mod Front
-pub mod Authentic
-pub mod Octets
-pub mod Hiding
+pub use Rattle.rad_packet.specs.Packet
+pub use Rattle.rad_packet.specs.Front
+pub use Rattle.rad_packet.specs.Authentic
+pub use Rattle.rad_packet.specs.Octets
+pub use Rattle.rad_packet.specs.Hiding
 pub mod Values
 pub mod Pairs
 pub mod Reply

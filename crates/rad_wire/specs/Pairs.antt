@@ -14,8 +14,8 @@ use Rattle.rad_value.specs.declared.values.Value.TheVariants as values
 use Rattle.rad_value.specs.PairLists.{PairLists}
 use Rattle.rad_dict.specs.declared.definitions.AttrDef.{AttrDef}
 use Rattle.rad_dict.specs.Definitions.{Definitions, definition_of}
-use Rattle.rad_wire.specs.Packet.{Attribute, spelled, attributes_in, attributes_of, authenticator_of, code_of}
-use Rattle.rad_wire.specs.Hiding.{is_hidden_length, revealed}
+use Rattle.rad_packet.specs.Packet.{Attribute, spelled, attributes_in, attributes_of, authenticator_of, code_of}
+use Rattle.rad_packet.specs.Hiding.{is_hidden_length, revealed}
 use Rattle.rad_wire.specs.Values.{value_of}
 
 -- The attribute of this number among the standard ones, and among those of a vendor.

@@ -5,8 +5,8 @@ use Rattle.std.specs.List.{flat_map}
 use Rattle.rad_words.specs.declared.attributes.Space.{Space}
 use Rattle.rad_words.specs.declared.attributes.Space.TheVariants.{Standard, Vendor, Internal}
 use Rattle.rad_value.specs.declared.values.Pair.{Pair}
-use Rattle.rad_wire.specs.Packet.{Attribute, spelled, attributes_of, authenticator_of, id_of}
-use Rattle.rad_wire.specs.Octets.{proxy_states, signed_reply}
+use Rattle.rad_packet.specs.Packet.{Attribute, spelled, attributes_of, authenticator_of, id_of}
+use Rattle.rad_packet.specs.Octets.{proxy_states, signed_reply}
 use Rattle.rad_wire.specs.Values.{octets_of}
 
 -- Whether a reply carries no standard attribute of this number from its list: User-Password, CHAP-Password, Proxy-State

@@ -2,17 +2,15 @@
 
 ghost use Rattle.std.specs.Prelude.{◌≡◌, ◌≢◌, ◌+◌, ◌<◌, ◌≤◌, ◌^◌, ◌++◌, [], length, IfOk, OnOk};
 ghost use Rattle.rad_value.specs.PairLists.{with_list};
-ghost use Rattle.rad_wire.specs.Octets.{IsChecked};
-ghost use Rattle.rad_wire.specs.Packet.{authenticator_of, code_of};
+ghost use Rattle.rad_packet.specs.Octets.{IsChecked};
+ghost use Rattle.rad_packet.specs.Packet.{authenticator_of, code_of};
 ghost use Rattle.rad_wire.specs.Pairs.{attribute_pairs, pair_of, pairs_of, password_of, requested, vendor_pairs, vendor_parts};
 
-use crate::attributes::{Front, split_front};
-use crate::checking::Checked;
-use crate::hiding::{is_hidden_length, revealed};
 use crate::vendor::push_vendor_pairs;
 use crate::wire_value::{kind_of, value_of};
 use rad_dict::Dict;
 use rad_outside::{NoMemory, Octets};
+use rad_packet::{Checked, Front, is_hidden_length, revealed, split_front};
 use rad_value::{ListName, Lists, Pair, Value};
 use rad_words::{AttrId, Space};
 use std::alloc::Global;

@@ -1,11 +1,10 @@
 //! Proxy-State: what proxies put into a request, and find again in the reply (RFC 2865 section 5.33).
 
 ghost use Rattle.std.specs.Prelude.{◌≡◌, ◌==◌, ◌++◌, ◌≤◌, [], length, OnOk, if◌then◌else◌};
-ghost use Rattle.rad_wire.specs.Octets.{IsChecked, proxy_states};
+ghost use Rattle.rad_packet.specs.Octets.{IsChecked, proxy_states};
 
-use crate::attributes::{Front, split_front};
-use crate::checking::Checked;
 use rad_outside::NoMemory;
+use rad_packet::{Checked, Front, split_front};
 
 /// The type of Proxy-State.
 const PROXY_STATE: u8 = 33;

@@ -1,14 +1,14 @@
 ghost use Rattle.std.specs.Prelude.{◌≡◌, ◌≤◌, ◌++◌, length, drop, IfOk};
 ghost use Rattle.md5.specs.Md5.{md5};
-ghost use Rattle.rad_wire.specs.Packet.{authenticator_of, code_of, id_of, IsWellFormed};
-ghost use Rattle.rad_wire.specs.Octets.{IsChecked, response_authenticator, signed_reply};
+ghost use Rattle.rad_packet.specs.Packet.{authenticator_of, code_of, id_of, IsWellFormed};
+ghost use Rattle.rad_packet.specs.Octets.{IsChecked, response_authenticator, signed_reply};
 ghost use Rattle.rad_wire.specs.Reply.{reply_octets};
 
-use crate::checking::Checked;
 use crate::proxy_state::{proxy_states_len, push_proxy_states};
 use crate::reply_pairs::push_pairs;
 use md5::{Digest, Md5};
 use rad_outside::{NoMemory, Octets};
+use rad_packet::Checked;
 use rad_value::Lists;
 use std::alloc::Global;
 

@@ -3,7 +3,7 @@
 ghost use Rattle.std.specs.Prelude.{◌≡◌, ◌++◌, ◌-◌, ◌≤◌, ◌<◌, length, take, IfOk, OnOk, ◌∷◌, []};
 ghost use Rattle.std.specs.Int.{w32, to_be_bytes};
 ghost use Rattle.std.specs.List.{flat_map};
-ghost use Rattle.rad_wire.specs.Packet.{spelled};
+ghost use Rattle.rad_packet.specs.Packet.{spelled};
 ghost use Rattle.rad_wire.specs.Appended.{IsAppended};
 ghost use Rattle.rad_wire.specs.Reply.{attributes_for, fitting, is_left_out, sent_attributes};
 

@@ -2,13 +2,13 @@
 
 ghost use Rattle.std.specs.Prelude.{◌≡◌, ◌≢◌, ◌+◌, ◌<◌, ◌≤◌, ◌^◌, ◌++◌, [], ◌∷◌, List, length, map, drop, IfOk, OnOk, IsTrue, ◌↔◌};
 ghost use Rattle.rad_value.specs.PairLists.{with_list};
-ghost use Rattle.rad_wire.specs.Packet.{Attribute, AreAttributes};
+ghost use Rattle.rad_packet.specs.Packet.{Attribute, AreAttributes};
 ghost use Rattle.rad_wire.specs.Pairs.{of_vendor, pair_of, vendor_of, vendor_pairs, vendor_parts};
 
-use crate::attributes::{are_attributes, split_front};
 use crate::wire_value::{kind_of, number_of, value_of};
 use rad_dict::Dict;
 use rad_outside::{NoMemory, Octets};
+use rad_packet::{are_attributes, split_front};
 use rad_value::{ListName, Lists, Pair, Value};
 use rad_words::{AttrId, Space};
 use std::alloc::Global;

@@ -9,8 +9,8 @@ use crate::build::refusal::refuse;
 use crate::fault::BuildFault;
 use rad_conf::Node;
 use rad_outside::Octets;
+use rad_packet::Client;
 use rad_pairs::address_of;
-use rad_wire::Client;
 use std::alloc::Global;
 
 /// What is known of a client.

@@ -22,7 +22,7 @@ use mod_files::Users;
 use rad_conf::Node;
 use rad_dict::Dict;
 use rad_outside::{Files, Octets, Place};
-use rad_wire::Client;
+use rad_packet::Client;
 use std::alloc::Global;
 
 /// The name of the configuration's file in its folder.

@@ -1,9 +1,9 @@
 use Rattle.std.proofs.Common.{List, drop, ap, sym, ◌∙◌}
 use Rattle.std.specs.List.{flat_map}
 use Rattle.rad_value.specs.PairLists.{no_pairs}
-use Rattle.rad_wire.specs.Packet.{Attribute}
+use Rattle.rad_packet.specs.Packet.{Attribute}
 use Rattle.rad_wire.specs.Pairs.{attribute_pairs, pairs_of, requested}
-use Rattle.rad_wire.proofs.AttributeLists.{packet_reading}
+use Rattle.rad_packet.proofs.AttributeLists.{packet_reading}
 use Rattle.rad_wire.proofs.AttributePairs.{few_pairs}
 use Rattle.rad_wire.proofs.PairWalks.{MakesPairs-more, MakesPairs-end}
 use Rattle.rad_wire.proofs.decoding.decode.Goals as goal

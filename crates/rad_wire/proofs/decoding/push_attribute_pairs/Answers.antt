@@ -3,7 +3,7 @@ use Rattle.std.proofs.Common.{◌≡◌, false, [], ◌∷◌, sym, ◌∙◌, i
 use Rattle.std.proofs.lemmas.Bool.{ne_eqb}
 use Rattle.rad_words.specs.declared.attributes.AttrId.{AttrId}
 use Rattle.rad_words.specs.declared.attributes.Space.TheVariants.{Standard}
-use Rattle.rad_wire.specs.Packet.{code_of}
+use Rattle.rad_packet.specs.Packet.{code_of}
 use Rattle.rad_wire.specs.Pairs.{attribute_pairs}
 use Rattle.rad_wire.proofs.AttributePairs.{attribute, of_vendors, of_password, of_others}
 use Rattle.rad_wire.proofs.decoding.push_attribute_pairs.Goals as goal

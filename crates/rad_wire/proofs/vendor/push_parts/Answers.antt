@@ -3,7 +3,7 @@ use Rattle.std.proofs.lemmas.List.Concat.{flat_map_single}
 use Rattle.rad_value.specs.declared.edits.ListName.TheVariants.{Request}
 use Rattle.rad_value.specs.declared.values.Pair.{Pair}
 use Rattle.rad_value.specs.PairLists.{with_list}
-use Rattle.rad_wire.specs.Packet.{Attribute}
+use Rattle.rad_packet.specs.Packet.{Attribute}
 use Rattle.rad_wire.specs.Pairs.{of_vendor, pair_of}
 use Rattle.rad_wire.proofs.PairWalks.{MakesPairs-start, MakesPairs-more, MakesPairs-end, vendor_part}
 use Rattle.rad_wire.proofs.vendor.push_parts.Goals as goal

@@ -5,7 +5,7 @@ use Rattle.std.proofs.lemmas.Result.{on_ok_weaker}
 use Rattle.rad_value.specs.declared.edits.ListName.TheVariants.{Request}
 use Rattle.rad_value.specs.declared.values.Pair.{Pair}
 use Rattle.rad_value.specs.PairLists.{with_list}
-use Rattle.rad_wire.specs.Packet.{Attribute, AreAttributes}
+use Rattle.rad_packet.specs.Packet.{Attribute, AreAttributes}
 use Rattle.rad_wire.specs.Pairs.{of_vendor, pair_of, vendor_of, vendor_parts}
 use Rattle.rad_wire.proofs.VendorParts.{AreOctets, no_parts_read, nothing_behind, pairs_of_parts}
 use Rattle.rad_wire.proofs.vendor.push_vendor_pairs.Goals as goal
