@@ -1,11 +1,11 @@
 -- Histories that are joined.
 use Rattle.std.proofs.Common.{ℕ, ◌≡◌, ◌==◌, List, [], ◌∷◌, ◌++◌, true, false, cond, Option, Some, None, refl, ap, sym, ◌∙◌, subst, append_assoc, eq-eqb}
 use Rattle.std.specs.List.{AllByRecursion}
-use Rattle.rad_core.specs.declared.arrival.Arrived.{Arrived}
-use Rattle.rad_core.specs.declared.ending.Ending.{Ending}
+use Rattle.rad_policy.specs.declared.arrival.Arrived.{Arrived}
+use Rattle.rad_policy.specs.declared.ending.Ending.{Ending}
 use Rattle.rad_core.specs.declared.started.StartAnswer.{StartAnswer}
 use Rattle.rad_core.specs.declared.started.StartAnswer.TheVariants.{Dropped, Fresh, NoRoom}
-use Rattle.rad_core.specs.Policy.{Meaning}
+use Rattle.rad_policy.specs.Policy.{Meaning}
 use Rattle.rad_core.specs.State.{ServerState, at_moment}
 use Rattle.rad_core.specs.Entry.{Entry, Start, Finish, Install, Look, Stop, worker_of}
 use Rattle.rad_core.specs.Step.{after, run, IsLegal}

@@ -4,17 +4,18 @@ use Rattle.std.specs.List.{Contains}
 use Rattle.std.specs.Arc.{arc_value}
 use Rattle.std.proofs.lemmas.List.Elements.{Contains-push}
 use Rattle.rad_packet.specs.declared.cause.DropCause.{DropCause}
-use Rattle.rad_core.specs.declared.arrival.Arrived.{Arrived}
-use Rattle.rad_core.specs.declared.ending.Ending.{Ending}
-use Rattle.rad_core.specs.declared.ending.Ending.TheVariants.{Sent, Withheld, OutOfMemory}
-use Rattle.rad_core.specs.declared.outcome.Outcome.{Outcome}
+use Rattle.rad_policy.specs.declared.arrival.Arrived.{Arrived}
+use Rattle.rad_policy.specs.declared.ending.Ending.{Ending}
+use Rattle.rad_policy.specs.declared.ending.Ending.TheVariants.{Sent, Withheld, OutOfMemory}
+use Rattle.rad_policy.specs.declared.outcome.Outcome.{Outcome}
 use Rattle.rad_core.specs.declared.started.StartAnswer.TheVariants.{Dropped, Fresh, NoRoom}
 use Rattle.rad_core.specs.declared.started.Ticket.{Ticket}
-use Rattle.rad_core.specs.Policy.{Meaning}
+use Rattle.rad_policy.specs.Policy.{Meaning}
 use Rattle.rad_core.specs.State.{ServerState, InProgress, at_moment, with_request}
 use Rattle.rad_core.specs.Entry.{Entry, Start, Finish}
 use Rattle.rad_core.specs.Step.{after, run, IsLegal, Step, Gives}
-use Rattle.rad_core.specs.Answers.{ending_seen, IsHeld, GivesOutcome}
+use Rattle.rad_policy.specs.Seen.{ending_seen, GivesOutcome}
+use Rattle.rad_core.specs.Answers.{IsHeld}
 use Rattle.rad_core.specs.Worker.{reply_of, IsOutcome, Passes}
 use Rattle.rad_core.proofs.Histories.{same_place}
 

@@ -3,38 +3,20 @@ use Rattle.std.specs.Prelude.{ℕ, ◌≡◌, ◌≤◌, List, Bool, Some, Resul
 use Rattle.std.specs.Arc.{arc_value}
 use Rattle.std.specs.declared.sync.Arc.{Arc}
 use Rattle.std.specs.declared.alloc.Global.{Global}
-use Rattle.rad_core.specs.declared.arrival.Arrival.{Arrival}
-use Rattle.rad_core.specs.declared.arrival.Arrived.{Arrived}
-use Rattle.rad_core.specs.declared.outcome.Outcome.{Outcome}
-use Rattle.rad_core.specs.declared.outcome.Outcome.TheVariants as outcome
+use Rattle.rad_policy.specs.declared.arrival.Arrival.{Arrival}
+use Rattle.rad_policy.specs.declared.arrival.Arrived.{Arrived}
+use Rattle.rad_policy.specs.declared.outcome.Outcome.{Outcome}
+use Rattle.rad_policy.specs.declared.outcome.Outcome.TheVariants as outcome
 use Rattle.rad_core.specs.declared.started.Started.{Started}
 use Rattle.rad_core.specs.declared.started.Ticket.{Ticket}
 use Rattle.rad_core.specs.declared.started.Started.TheVariants as started
-use Rattle.rad_core.specs.Policy.{Meaning}
+use Rattle.rad_policy.specs.Policy.{Meaning}
 use Rattle.rad_core.specs.State.{ServerState, with_request}
-use Rattle.rad_core.specs.declared.ending.Ending.{Ending}
-use Rattle.rad_core.specs.declared.ending.Ending.TheVariants.{Sent, Withheld, OutOfMemory}
+use Rattle.rad_policy.specs.declared.ending.Ending.{Ending}
+use Rattle.rad_policy.specs.declared.ending.Ending.TheVariants.{Sent, Withheld, OutOfMemory}
 use Rattle.rad_core.specs.declared.started.StartAnswer.{StartAnswer}
 use Rattle.rad_core.specs.declared.started.StartAnswer.TheVariants.{Dropped, Fresh, NoRoom}
 use Rattle.rad_core.specs.Step.{Gives, MayFinish}
-
--- An arrival without where its octets lie.
-abbrev pub arrived_of : Arrival → Arrived
-arrived_of arrival = record {
-  worker = arrival.worker;
-  listener = arrival.listener;
-  kind = arrival.kind;
-  server = arrival.server.now;
-  from = arrival.from;
-  bytes = arrival.bytes.now;
-  now = arrival.now;
-}
-
--- An outcome without where its octets lie.
-abbrev pub ending_seen : Outcome → Ending
-ending_seen (outcome.Sent octets) = Sent (arc_value octets)
-ending_seen outcome.Withheld = Withheld
-ending_seen outcome.NoMemory = OutOfMemory
 
 -- A start's answer: of a ticket, its place.
 abbrev pub answer_seen : {P : Type 0} → Started P → StartAnswer
@@ -46,12 +28,6 @@ answer_seen started.NoMemory = NoRoom
 abbrev pub load_seen : {P F : Type 0} → Result (Arc P Global) F → Result P F
 load_seen (Ok generation) = Ok (arc_value generation)
 load_seen (Err fault) = Err fault
-
--- The policy gives this outcome for an arrival, with this luck word and some answers of devices.
-abbrev pub GivesOutcome : {P F : Type 0} → Meaning P F → P → Arrived → ℕ → ℕ → Outcome → Type 0
-GivesOutcome meaning generation arrival moment luck outcome =
-    (answers : List Bool)
-    × Gives meaning (record { place = 0; arrival = arrival; generation = generation; moment = moment }) luck answers (ending_seen outcome)
 
 -- A ticket has the generation and the moment of its place.
 abbrev pub IsTicketOf : {P : Type 0} → ServerState P → Started P → Type 0
@@ -74,9 +50,3 @@ pub record IsHeld {P F : Type 0} (meaning : Meaning P F) (state : ServerState P)
   pub may : MayFinish meaning state worker ticket.place ending
   pub generation : may.row.generation ≡ arc_value ticket.generation
   pub moment : may.row.moment ≡ ticket.moment
-
--- A reply has at most 4,096 octets.
-abbrev pub FitsDatagram : Outcome → Type 0
-FitsDatagram (outcome.Sent octets) = length (arc_value octets) ≤ 4096
-FitsDatagram outcome.Withheld = Unit {0}
-FitsDatagram outcome.NoMemory = Unit {0}

@@ -1,8 +1,8 @@
 -- The entries of a history: what was asked of the core, and what it answered. This project's own.
 use Rattle.std.specs.Prelude.{ℕ, List, Result}
 use Rattle.rad_outside.specs.declared.listen.Listen.{Listen}
-use Rattle.rad_core.specs.declared.arrival.Arrived.{Arrived}
-use Rattle.rad_core.specs.declared.ending.Ending.{Ending}
+use Rattle.rad_policy.specs.declared.arrival.Arrived.{Arrived}
+use Rattle.rad_policy.specs.declared.ending.Ending.{Ending}
 use Rattle.rad_core.specs.declared.installed.Installed.{Installed}
 use Rattle.rad_core.specs.declared.seen.Seen.{Seen}
 use Rattle.rad_core.specs.declared.started.StartAnswer.{StartAnswer}

@@ -1,4 +1,5 @@
-pub mod Policy
+pub use Rattle.rad_policy.specs.Policy
+pub use Rattle.rad_policy.specs.Seen
 pub mod State
 pub mod Entry
 pub mod Step

@@ -1,6 +1,6 @@
 -- The state of the server: the present generation, the moment, and the requests in progress. This project's own.
 use Rattle.std.specs.Prelude.{ℕ, ◌+◌, ◌-◌, ◌^◌, ◌==◌, min, max, List, [], ◌∷◌, ◌++◌, length, Option, Some, None, Bool, true, false, not, filter}
-use Rattle.rad_core.specs.declared.arrival.Arrived.{Arrived}
+use Rattle.rad_policy.specs.declared.arrival.Arrived.{Arrived}
 use Rattle.rad_core.specs.declared.seen.Seen.{Seen}
 
 -- A request in progress: its place in the history, and the generation and the moment of that place.

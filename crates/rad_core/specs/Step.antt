@@ -4,14 +4,14 @@ use Rattle.rad_outside.specs.declared.listen.Listen.{Listen}
 use Rattle.rad_outside.specs.declared.listen.ListenKind.TheVariants.{Auth, Acct, Control}
 use Rattle.rad_packet.specs.declared.cause.DropCause.{DropCause}
 use Rattle.rad_packet.specs.Packet.{packet_of}
-use Rattle.rad_packet.specs.Authentic.{IsFirstCause, IsAuthentic}
-use Rattle.rad_core.specs.declared.arrival.Arrived.{Arrived}
+use Rattle.rad_packet.specs.Authentic.{IsFirstCause}
+use Rattle.rad_policy.specs.declared.arrival.Arrived.{Arrived}
 use Rattle.rad_core.specs.declared.installed.Installed.{Installed}
 use Rattle.rad_core.specs.declared.installed.Installed.TheVariants as installed
-use Rattle.rad_core.specs.Policy.{Meaning, Replies, Withholds}
+use Rattle.rad_policy.specs.Policy.{Meaning, IsAuthenticUnder, GivesEnding}
 use Rattle.rad_core.specs.State.{ServerState, InProgress, at_moment, counted, with_request, without_request, after_stop, seen_of}
-use Rattle.rad_core.specs.declared.ending.Ending.{Ending}
-use Rattle.rad_core.specs.declared.ending.Ending.TheVariants.{Sent, Withheld, OutOfMemory}
+use Rattle.rad_policy.specs.declared.ending.Ending.{Ending}
+use Rattle.rad_policy.specs.declared.ending.Ending.TheVariants.{Sent, Withheld, OutOfMemory}
 use Rattle.rad_core.specs.declared.started.StartAnswer.{StartAnswer}
 use Rattle.rad_core.specs.declared.started.StartAnswer.TheVariants.{Dropped, Fresh, NoRoom}
 use Rattle.rad_core.specs.Entry.{Entry, Start, Finish, Install, Look, Stop}
@@ -25,11 +25,6 @@ pub record IsSameRequest (a b : Arrived) : Type 0 where
 -- No request in progress is the same as this one.
 abbrev pub IsNew : {P : Type 0} → ServerState P → Arrived → Type 0
 IsNew {P} state arrival = All (λ (row : InProgress P). ¬ IsSameRequest row.arrival arrival) state.table
-
--- The datagram is authentic under this generation.
-abbrev pub IsAuthenticUnder : {P F : Type 0} → Meaning P F → P → Arrived → Type 0
-IsAuthenticUnder meaning generation arrival =
-    IsAuthentic arrival.bytes (meaning.client generation arrival.from.addr) arrival.kind
 
 -- A start, in the state after the moment rule, under the present generation: it is dropped exactly for the first
 -- cause, it is fresh exactly where the datagram is authentic, and its place is the number of entries before it.
@@ -52,13 +47,9 @@ abbrev pub IsTaken : {P F : Type 0} → Meaning P F → ServerState P → Arrive
 IsTaken {P} meaning state arrival =
     (generation : P) × (state.present ≡ Some generation) × IsAuthenticUnder meaning generation arrival
 
--- The policy gives this ending for a request, with this luck word and these answers of devices.
+-- The policy gives this ending for a request in progress, with this luck word and these answers of devices.
 abbrev pub Gives : {P F : Type 0} → Meaning P F → InProgress P → ℕ → List Bool → Ending → Type 0
-Gives meaning row luck answers (Sent octets) =
-    meaning.access row.generation row.arrival row.moment luck answers ≡ Replies octets
-Gives meaning row luck answers Withheld =
-    meaning.access row.generation row.arrival row.moment luck answers ≡ Withholds
-Gives meaning row luck answers OutOfMemory = Unit {0}
+Gives meaning row luck answers ending = GivesEnding meaning row.generation row.arrival row.moment luck answers ending
 
 -- A finish: the request of this place is in progress for this worker, and the policy gives its ending under the
 -- generation and the moment of its place, for some luck word and answers.

@@ -1,14 +1,14 @@
 ghost use Rattle.std.specs.Prelude.{◌≡◌, ◌<◌, ◌^◌, ◌==◌, not, filter};
 ghost use Rattle.rad_core.specs.Entry.{Finish};
 ghost use Rattle.rad_core.specs.Step.{Step};
-ghost use Rattle.rad_core.specs.Answers.{ending_seen, IsHeld};
+ghost use Rattle.rad_policy.specs.Seen.{ending_seen};
+ghost use Rattle.rad_core.specs.Answers.{IsHeld};
 ghost use Rattle.rad_core.specs.Core.{state_of, log_of};
 
 use crate::machine::Core;
-use crate::outcome::Outcome;
-use crate::policy::Policy;
 use crate::row::Row;
 use crate::started::Ticket;
+use rad_policy::{Outcome, Policy};
 
 impl<P: Policy, L> Core<P, L> {
     /// A worker has ended the request of a ticket. Takes no memory.

@@ -6,8 +6,8 @@ ghost use Rattle.rad_core.specs.Core.{state_of, log_of};
 
 use crate::installed::Installed;
 use crate::machine::Core;
-use crate::policy::Policy;
 use rad_outside::{Listen, ListenKind, NoMemory, Octets};
+use rad_policy::Policy;
 use std::alloc::Global;
 use std::sync::Arc;
 

@@ -4,25 +4,18 @@
 //! Above it stands the server, which asks it one event at a time; of the policy it knows the trait `Policy` alone.
 #![tactic(auto)]
 
-mod arrival;
-mod ending;
 mod finishes;
 mod installed;
 mod installs;
 mod looks;
 mod machine;
-mod outcome;
-mod policy;
 mod row;
 mod seen;
 mod started;
 mod starts;
 
-pub use arrival::{Arrival, Arrived};
-pub use ending::Ending;
 pub use installed::Installed;
 pub use machine::Core;
-pub use outcome::Outcome;
-pub use policy::Policy;
+pub use rad_policy::{Arrival, Arrived, Ending, Outcome, Policy};
 pub use seen::Seen;
 pub use started::{StartAnswer, Started, Ticket};

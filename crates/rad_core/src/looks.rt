@@ -4,8 +4,8 @@ ghost use Rattle.rad_core.specs.Step.{Step};
 ghost use Rattle.rad_core.specs.Core.{state_of, log_of};
 
 use crate::machine::Core;
-use crate::policy::Policy;
 use crate::seen::Seen;
+use rad_policy::Policy;
 
 impl<P: Policy, L> Core<P, L> {
     /// A worker looks at the server: what its state is now. Takes no memory.

@@ -1,8 +1,8 @@
 ghost use Rattle.std.specs.Prelude.{◌≤◌};
 
-use crate::policy::Policy;
 use crate::row::Row;
 use rad_outside::Octets;
+use rad_policy::Policy;
 use std::alloc::Global;
 use std::sync::Arc;
 

@@ -1,4 +1,4 @@
-use crate::arrival::Arrived;
+use rad_policy::Arrived;
 use std::sync::Arc;
 
 /// A request in progress: its place, a copy of its arrival, and the generation and the moment of its place.

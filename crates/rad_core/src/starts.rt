@@ -3,16 +3,16 @@ ghost use Rattle.rad_outside.specs.declared.listen.ListenKind.TheVariants.{Auth}
 ghost use Rattle.rad_core.specs.State.{at_moment};
 ghost use Rattle.rad_core.specs.Entry.{Start};
 ghost use Rattle.rad_core.specs.Step.{Step, IsNew, IsDroppedFor, IsTaken, Judges};
-ghost use Rattle.rad_core.specs.Answers.{arrived_of, answer_seen, IsTicketOf, Admits};
+ghost use Rattle.rad_policy.specs.Seen.{arrived_of};
+ghost use Rattle.rad_core.specs.Answers.{answer_seen, IsTicketOf, Admits};
 ghost use Rattle.rad_core.specs.Core.{state_of, log_of};
 
-use crate::arrival::{Arrival, Arrived};
 use crate::machine::Core;
-use crate::policy::Policy;
 use crate::row::Row;
 use crate::started::{Started, Ticket};
 use rad_outside::NoMemory;
 use rad_packet::{DropCause, check};
+use rad_policy::{Arrival, Arrived, Policy};
 use std::sync::Arc;
 
 const LAST_MOMENT: u64 = 250_000_000_000;

@@ -6,7 +6,7 @@ use Rattle.rad_dict.specs.Definitions.{Definitions}
 use Rattle.rad_conf.specs.declared.fault.ConfFault.{ConfFault}
 use Rattle.rad_conf.specs.declared.tree.Node.{Node}
 use Rattle.rad_conf.specs.Conf.{conf_at, path_of}
-use Rattle.rad_core.specs.Policy.{Sources, IsBuilt}
+use Rattle.rad_policy.specs.Policy.{Sources, IsBuilt}
 use Rattle.rad_site.specs.declared.fault.BuildFault.{BuildFault}
 use Rattle.rad_site.specs.declared.fault.BuildFault.TheVariants as fault
 use Rattle.rad_site.specs.Site.{Site}

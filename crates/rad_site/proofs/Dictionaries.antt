@@ -9,7 +9,7 @@ use Rattle.rad_dict.specs.Base.{base_definitions}
 use Rattle.rad_dict.specs.Definitions.{Definitions}
 use Rattle.rad_dict.specs.Includes.{dict_from, dict_of}
 use Rattle.rad_conf.specs.Conf.{path_of}
-use Rattle.rad_core.specs.Policy.{Sources}
+use Rattle.rad_policy.specs.Policy.{Sources}
 use Rattle.rad_site.specs.declared.fault.BuildFault.{BuildFault}
 use Rattle.rad_site.specs.DictFault.{of_dict}
 use Rattle.rad_site.specs.Sources.{Finds, FindsIn}

@@ -1,7 +1,7 @@
 -- What is read from a site's files, step by step.
 use Rattle.std.proofs.Common.{◌≡◌, ℕ, List, [], ◌∷◌, length, Option, Some, None, Result, Ok, Err, refl, sym, ap, subst, ◌∙◌, arith}
 use Rattle.rad_outside.specs.Files.{FilesTold}
-use Rattle.rad_core.specs.Policy.{Sources}
+use Rattle.rad_policy.specs.Policy.{Sources}
 use Rattle.rad_site.specs.declared.fault.BuildFault.{BuildFault}
 use Rattle.rad_site.specs.declared.fault.BuildFault.TheVariants as fault
 use Rattle.rad_conf.specs.declared.tree.Node.{Node}

@@ -4,7 +4,7 @@ use Rattle.rad_outside.specs.Files.{FilesTold}
 use Rattle.rad_outside.specs.Telling.{Tells}
 use Rattle.rad_dict.specs.Definitions.{Definitions}
 use Rattle.rad_conf.specs.declared.tree.Node.{Node}
-use Rattle.rad_core.specs.Policy.{Sources}
+use Rattle.rad_policy.specs.Policy.{Sources}
 use Rattle.rad_site.specs.declared.build.modules.Modules.{Modules}
 use Rattle.rad_site.specs.declared.fault.BuildFault.{BuildFault}
 use Rattle.rad_site.specs.Nodes.{◌>>=◌, after_each}

@@ -3,10 +3,10 @@ use Rattle.std.proofs.Common.{ℕ, ◌≡◌, List, [], refl, ap, ◌∙◌}
 use Rattle.rad_value.specs.PairLists.{PairLists}
 use Rattle.rad_packet.specs.Packet.{packet_of}
 use Rattle.rad_wire.specs.Pairs.{pairs_of, requested}
-use Rattle.rad_core.specs.declared.arrival.Arrived.{Arrived}
-use Rattle.rad_core.specs.declared.outcome.Outcome.{Outcome}
-use Rattle.rad_core.specs.declared.outcome.Outcome.TheVariants as outcome
-use Rattle.rad_core.specs.Answers.{GivesOutcome}
+use Rattle.rad_policy.specs.declared.arrival.Arrived.{Arrived}
+use Rattle.rad_policy.specs.declared.outcome.Outcome.{Outcome}
+use Rattle.rad_policy.specs.declared.outcome.Outcome.TheVariants as outcome
+use Rattle.rad_policy.specs.Seen.{GivesOutcome}
 use Rattle.rad_site.specs.Site.{Site}
 use Rattle.rad_site.specs.declared.verdict.Verdict.{Verdict}
 use Rattle.rad_site.specs.Access.{decided}

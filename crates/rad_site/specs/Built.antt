@@ -9,7 +9,7 @@ use Rattle.rad_dict.specs.Base.{base_definitions}
 use Rattle.rad_dict.specs.Includes.{dict_of}
 use Rattle.rad_conf.specs.declared.tree.Node.{Node}
 use Rattle.rad_conf.specs.Conf.{conf_at, path_of}
-use Rattle.rad_core.specs.Policy.{Sources}
+use Rattle.rad_policy.specs.Policy.{Sources}
 use Rattle.rad_packet.specs.declared.client.Client.{Client}
 use Rattle.rad_site.specs.declared.build.modules.Modules.{Modules}
 use Rattle.rad_site.specs.declared.build.server.Server.{Server}

@@ -7,10 +7,10 @@ use Rattle.rad_packet.specs.declared.client.Client.{Client}
 use Rattle.rad_packet.specs.Packet.{packet_of}
 use Rattle.rad_wire.specs.Pairs.{pairs_of, requested}
 use Rattle.rad_wire.specs.Reply.{reply_octets}
-use Rattle.rad_core.specs.declared.arrival.Arrived.{Arrived}
-use Rattle.rad_core.specs.declared.outcome.Outcome.{Outcome}
-use Rattle.rad_core.specs.declared.outcome.Outcome.TheVariants as outcome
-use Rattle.rad_core.specs.Policy.{Reply, Replies, Withholds}
+use Rattle.rad_policy.specs.declared.arrival.Arrived.{Arrived}
+use Rattle.rad_policy.specs.declared.outcome.Outcome.{Outcome}
+use Rattle.rad_policy.specs.declared.outcome.Outcome.TheVariants as outcome
+use Rattle.rad_policy.specs.Policy.{Reply, Replies, Withholds}
 use Rattle.rad_site.specs.declared.statement.Statement.{Statement}
 use Rattle.rad_site.specs.declared.statement.Subsection.{Subsection}
 use Rattle.rad_site.specs.declared.verdict.Verdict.{Verdict}

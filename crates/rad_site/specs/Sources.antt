@@ -2,7 +2,7 @@
 use Rattle.std.specs.Prelude.{◌≡◌, ℕ, List, Option, Result, Ok, Err}
 use Rattle.rad_outside.specs.Files.{FilesTold}
 use Rattle.rad_outside.specs.Telling.{Tells}
-use Rattle.rad_core.specs.Policy.{Sources}
+use Rattle.rad_policy.specs.Policy.{Sources}
 use Rattle.rad_site.specs.declared.fault.BuildFault.{BuildFault}
 use Rattle.rad_site.specs.declared.fault.BuildFault.TheVariants as fault
 

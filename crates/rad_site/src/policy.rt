@@ -1,7 +1,7 @@
 ghost use Rattle.std.specs.Prelude.{◌≡◌, [], IfOk};
 ghost use Rattle.rad_outside.specs.declared.listen.ListenKind.TheVariants.{Auth};
-ghost use Rattle.rad_core.specs.Step.{IsAuthenticUnder};
-ghost use Rattle.rad_core.specs.Answers.{arrived_of, FitsDatagram};
+ghost use Rattle.rad_policy.specs.Policy.{IsAuthenticUnder};
+ghost use Rattle.rad_policy.specs.Seen.{arrived_of, FitsDatagram};
 ghost use Rattle.rad_site.specs.Request.{authorize_of, authenticate_of, secret_of, access_of, IsOutcome};
 ghost use Rattle.rad_site.specs.Meaning.{site_meaning};
 
@@ -12,9 +12,9 @@ use crate::generation::Generation;
 use crate::reply::reply_to;
 use crate::statement::{Statement, Subsection};
 use rad_conf::read_conf;
-use rad_core::{Arrival, Outcome, Policy};
 use rad_outside::{Files, NoMemory, Shelf};
 use rad_packet::{Client, check};
+use rad_policy::{Arrival, Outcome, Policy};
 use rad_wire::decode;
 use std::alloc::Global;
 

@@ -4,16 +4,16 @@ ghost use Rattle.std.specs.Prelude.{◌≡◌, ◌+◌, ◌<◌, ◌≤◌, ◌^
 ghost use Rattle.rad_value.specs.PairLists.{with_list};
 ghost use Rattle.rad_packet.specs.Octets.{IsChecked};
 ghost use Rattle.rad_wire.specs.Reply.{reply_octets};
-ghost use Rattle.rad_core.specs.Answers.{FitsDatagram};
-ghost use Rattle.rad_core.specs.Policy.{Replies};
+ghost use Rattle.rad_policy.specs.Seen.{FitsDatagram};
+ghost use Rattle.rad_policy.specs.Policy.{Replies};
 ghost use Rattle.rad_site.specs.Access.{kept, kept_of};
 ghost use Rattle.rad_site.specs.Request.{reply_to, IsOutcome};
 
 use crate::attributes::REPLY_MESSAGE;
 use crate::verdict::Verdict;
-use rad_core::Outcome;
 use rad_outside::NoMemory;
 use rad_packet::Checked;
+use rad_policy::Outcome;
 use rad_value::{ListName, Lists, Pair};
 use rad_wire::reply_bytes;
 use std::alloc::Global;

@@ -1,6 +1,6 @@
 -- The hub's invariant over what is added.
 use Rattle.std.proofs.Common.{ℕ, ◌≡◌, ◌+◌, ◌++◌, List, [], ◌∷◌, length, ap, sym, ◌∙◌, subst, length-append}
-use Rattle.rad_core.specs.declared.arrival.Arrived.{Arrived}
+use Rattle.rad_policy.specs.declared.arrival.Arrived.{Arrived}
 use Rattle.rad_core.specs.State.{ServerState, opening}
 use Rattle.rad_core.specs.Entry.{Entry}
 use Rattle.rad_core.specs.Step.{run, May, Step, IsLegal}

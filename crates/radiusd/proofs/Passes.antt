@@ -9,7 +9,7 @@ use Rattle.rad_outside.specs.declared.wire.Heard.{Heard}
 use Rattle.rad_outside.specs.declared.wire.Heard.TheVariants as heard
 use Rattle.rad_outside.specs.Telling.{Tells}
 use Rattle.rad_outside.specs.Wire.{WireTold}
-use Rattle.rad_core.specs.declared.arrival.Arrived.{Arrived}
+use Rattle.rad_policy.specs.declared.arrival.Arrived.{Arrived}
 use Rattle.rad_core.specs.declared.seen.Seen.{Seen}
 use Rattle.rad_core.specs.State.{ServerState, opening}
 use Rattle.rad_core.specs.Entry.{Entry, Look, Stop}

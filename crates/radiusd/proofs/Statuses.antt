@@ -3,7 +3,7 @@ use Rattle.std.proofs.Common.{ℕ, ◌≡◌, ◌⊎◌, List, Option, Some, Non
 use Rattle.rad_outside.specs.declared.crew.Kit.{Kit}
 use Rattle.rad_outside.specs.Telling.{Tells, Rose}
 use Rattle.rad_outside.specs.Files.{File, FilesTold, begun}
-use Rattle.rad_core.specs.Policy.{IsBuilt}
+use Rattle.rad_policy.specs.Policy.{IsBuilt}
 use Rattle.rad_site.specs.declared.fault.BuildFault.{BuildFault}
 use Rattle.rad_site.specs.declared.fault.BuildFault.TheVariants as fault
 use Rattle.radiusd.specs.declared.status.Status.{Status}

@@ -5,7 +5,7 @@ use Rattle.std.proofs.lemmas.List.{map-append}
 use Rattle.rad_outside.specs.declared.crew.Kit.{Kit}
 use Rattle.rad_outside.specs.declared.listen.Listen.{Listen}
 use Rattle.rad_outside.specs.Telling.{Tells}
-use Rattle.rad_core.specs.declared.arrival.Arrived.{Arrived}
+use Rattle.rad_policy.specs.declared.arrival.Arrived.{Arrived}
 use Rattle.rad_core.specs.Worker.{Placed, Answer, served, answered}
 use Rattle.rad_core.proofs.Histories.{served-append, answered-append, IsClosed-append, HaveOutcomes-append}
 use Rattle.rad_site.specs.declared.fault.BuildFault.{BuildFault}

@@ -2,17 +2,18 @@
 use Rattle.std.proofs.Common.{ℕ, ◌≡◌, ◌++◌, List, [], ◌∷◌, Option, Some, None, ap, sym, ◌∙◌, subst, append_assoc}
 use Rattle.std.proofs.lemmas.List.{map-append}
 use Rattle.std.specs.Arc.{arc_value}
-use Rattle.rad_core.specs.declared.arrival.Arrived.{Arrived}
-use Rattle.rad_core.specs.declared.ending.Ending.{Ending}
-use Rattle.rad_core.specs.declared.outcome.Outcome.{Outcome}
-use Rattle.rad_core.specs.declared.outcome.Outcome.TheVariants as outcome
+use Rattle.rad_policy.specs.declared.arrival.Arrived.{Arrived}
+use Rattle.rad_policy.specs.declared.ending.Ending.{Ending}
+use Rattle.rad_policy.specs.declared.outcome.Outcome.{Outcome}
+use Rattle.rad_policy.specs.declared.outcome.Outcome.TheVariants as outcome
 use Rattle.rad_core.specs.declared.started.StartAnswer.{StartAnswer}
 use Rattle.rad_core.specs.declared.started.StartAnswer.TheVariants.{Dropped, Fresh, NoRoom}
 use Rattle.rad_core.specs.declared.started.Ticket.{Ticket}
 use Rattle.rad_core.specs.State.{ServerState, at_moment}
 use Rattle.rad_core.specs.Entry.{Entry, Start, Finish}
 use Rattle.rad_core.specs.Step.{Step}
-use Rattle.rad_core.specs.Answers.{ending_seen, GivesOutcome, IsHeld}
+use Rattle.rad_policy.specs.Seen.{ending_seen, GivesOutcome}
+use Rattle.rad_core.specs.Answers.{IsHeld}
 use Rattle.rad_core.specs.Worker.{Answer, reply_of, IsOutcome, Passes}
 use Rattle.rad_core.proofs.Turns.{passes_dropped, passes_no_room, passes_fresh, held_after_start, fresh_present, moment_after}
 use Rattle.rad_site.specs.declared.fault.BuildFault.{BuildFault}

@@ -1,8 +1,8 @@
 -- The counts of a run, over the entries that it added. This project's own.
 use Rattle.std.specs.Prelude.{Bool, true, false, List, drop}
 use Rattle.std.specs.List.{count_by}
-use Rattle.rad_core.specs.declared.ending.Ending.{Ending}
-use Rattle.rad_core.specs.declared.ending.Ending.TheVariants.{Sent, Withheld, OutOfMemory}
+use Rattle.rad_policy.specs.declared.ending.Ending.{Ending}
+use Rattle.rad_policy.specs.declared.ending.Ending.TheVariants.{Sent, Withheld, OutOfMemory}
 use Rattle.rad_core.specs.declared.installed.Installed.{Installed}
 use Rattle.rad_core.specs.declared.installed.Installed.TheVariants as installed
 use Rattle.rad_core.specs.Entry.{Entry, Start, Finish, Install, Look, Stop}

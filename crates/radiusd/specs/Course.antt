@@ -8,7 +8,7 @@ use Rattle.rad_outside.specs.Files.{FilesTold, begun}
 use Rattle.rad_outside.specs.Telling.{Tells, Rose}
 use Rattle.rad_core.specs.declared.installed.Installed.{Installed}
 use Rattle.rad_core.specs.Entry.{Entry, Install}
-use Rattle.rad_core.specs.Policy.{IsBuilt}
+use Rattle.rad_policy.specs.Policy.{IsBuilt}
 use Rattle.rad_site.specs.declared.fault.BuildFault.{BuildFault}
 use Rattle.rad_site.specs.declared.fault.BuildFault.TheVariants as fault
 use Rattle.rad_site.specs.Built.{built}

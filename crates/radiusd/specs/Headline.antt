@@ -5,7 +5,7 @@ use Rattle.rad_outside.specs.declared.crew.Kit.{Kit}
 use Rattle.rad_outside.specs.Crew.{Handed}
 use Rattle.rad_outside.specs.Files.{FilesTold}
 use Rattle.rad_outside.specs.Telling.{Tells}
-use Rattle.rad_core.specs.declared.arrival.Arrived.{Arrived}
+use Rattle.rad_policy.specs.declared.arrival.Arrived.{Arrived}
 use Rattle.rad_core.specs.State.{opening}
 use Rattle.rad_core.specs.Entry.{Entry, worker_of}
 use Rattle.rad_core.specs.Step.{IsLegal}

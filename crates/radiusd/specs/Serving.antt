@@ -6,7 +6,7 @@ use Rattle.rad_outside.specs.declared.listen.Listen.{Listen}
 use Rattle.rad_outside.specs.declared.listen.Peer.{Peer}
 use Rattle.rad_outside.specs.Telling.{Tells}
 use Rattle.rad_outside.specs.Wire.{WireTold}
-use Rattle.rad_core.specs.declared.arrival.Arrived.{Arrived}
+use Rattle.rad_policy.specs.declared.arrival.Arrived.{Arrived}
 use Rattle.rad_core.specs.Entry.{Entry}
 use Rattle.rad_core.specs.Step.{IsLegal}
 use Rattle.rad_core.specs.Worker.{Answer, placed, IsOwn}

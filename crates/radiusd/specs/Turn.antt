@@ -1,9 +1,9 @@
 -- What one datagram's whole way adds to the history, and the reply that it leaves in a buffer. This project's own.
 use Rattle.std.specs.Prelude.{ℕ, ◌≡◌, ◌≤◌, ◌++◌, List, [], ◌∷◌, take, Option, Some, None}
 use Rattle.std.specs.Arc.{arc_value}
-use Rattle.rad_core.specs.declared.arrival.Arrived.{Arrived}
-use Rattle.rad_core.specs.declared.outcome.Outcome.{Outcome}
-use Rattle.rad_core.specs.declared.outcome.Outcome.TheVariants as outcome
+use Rattle.rad_policy.specs.declared.arrival.Arrived.{Arrived}
+use Rattle.rad_policy.specs.declared.outcome.Outcome.{Outcome}
+use Rattle.rad_policy.specs.declared.outcome.Outcome.TheVariants as outcome
 use Rattle.rad_core.specs.State.{ServerState}
 use Rattle.rad_core.specs.Entry.{Entry}
 use Rattle.rad_core.specs.Worker.{Answer, Passes}

@@ -5,7 +5,8 @@ ghost use Rattle.radiusd.specs.History.{entry_seen, history_of};
 ghost use Rattle.radiusd.specs.Installing.{is_present_by};
 
 use crate::entry::StoredEntry;
-use rad_core::{Ending, Installed};
+use rad_core::Installed;
+use rad_policy::Ending;
 use rad_site::BuildFault;
 
 /// What a run counts: the datagrams that it served, the replies that they got, the generations that it loaded beside

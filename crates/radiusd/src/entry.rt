@@ -1,5 +1,6 @@
-use rad_core::{Arrived, Ending, Installed, Seen, StartAnswer};
+use rad_core::{Installed, Seen, StartAnswer};
 use rad_outside::Listen;
+use rad_policy::{Arrived, Ending};
 use rad_site::{BuildFault, Generation};
 use std::sync::Arc;
 

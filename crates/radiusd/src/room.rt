@@ -1,8 +1,8 @@
 ghost use Rattle.std.specs.Prelude.{◌≡◌, ◌≤◌, length, vec_len, vec_capacity, IfOk};
-ghost use Rattle.rad_core.specs.Answers.{arrived_of};
+ghost use Rattle.rad_policy.specs.Seen.{arrived_of};
 
-use rad_core::{Arrival, Arrived};
 use rad_outside::{NoMemory, Octets};
+use rad_policy::{Arrival, Arrived};
 use std::alloc::Global;
 
 /// Octets of a datagram, at most.

@@ -6,8 +6,8 @@ ghost use Rattle.radiusd.specs.Serving.{Serves, GoesOn, left_of, IsCounted};
 use crate::hub::Hub;
 use crate::left::Left;
 use crate::room::Room;
-use rad_core::Arrival;
 use rad_outside::{Clock, Gate, Got, Kit, Listen, Luck, Peer, Point, Shelf, Wire};
+use rad_policy::Arrival;
 use std::alloc::Global;
 use std::sync::Wait;
 

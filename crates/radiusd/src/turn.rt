@@ -1,15 +1,17 @@
 ghost use Rattle.std.specs.Prelude.{◌≡◌, ◌≤◌, ◌<◌, ◌+◌, ◌^◌, [], length, vec_len, vec_capacity, IsSome, IfSome, take};
 ghost use Rattle.std.specs.Arc.{arc_value};
 ghost use Rattle.rad_outside.specs.declared.listen.ListenKind.TheVariants.{Auth};
-ghost use Rattle.rad_core.specs.Answers.{arrived_of, answer_seen, ending_seen, FitsDatagram};
+ghost use Rattle.rad_policy.specs.Seen.{arrived_of, ending_seen, FitsDatagram};
+ghost use Rattle.rad_core.specs.Answers.{answer_seen};
 ghost use Rattle.rad_core.specs.Core.{state_of, log_of};
 ghost use Rattle.radiusd.specs.History.{history_of};
 ghost use Rattle.radiusd.specs.Turn.{AddsTurn, answers_of, FitsAnswer, IsCopied};
 
 use crate::entry::StoredEntry;
 use crate::room::{DatagramRoom, Room, stored_arrival};
-use rad_core::{Arrival, Core, Ending, Outcome, Policy, StartAnswer, Started, Ticket};
+use rad_core::{Core, StartAnswer, Started, Ticket};
 use rad_outside::{Gate, Point, Shelf};
+use rad_policy::{Arrival, Ending, Outcome, Policy};
 use rad_site::Generation;
 use std::alloc::Global;
 

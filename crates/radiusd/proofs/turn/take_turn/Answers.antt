@@ -2,7 +2,8 @@ use Rattle.std.proofs.Common.{ap, sym, ◌∙◌, subst}
 use Rattle.rad_core.specs.declared.started.Started.{Started}
 use Rattle.rad_core.specs.Entry.{Start}
 use Rattle.rad_core.specs.Step.{Step}
-use Rattle.rad_core.specs.Answers.{arrived_of, answer_seen, IsTicketOf, GivesOutcome}
+use Rattle.rad_policy.specs.Seen.{arrived_of, GivesOutcome}
+use Rattle.rad_core.specs.Answers.{answer_seen, IsTicketOf}
 use Rattle.rad_core.specs.Core.{state_of}
 use Rattle.rad_site.specs.Site.{Site}
 use Rattle.rad_site.specs.Meaning.{site_meaning}

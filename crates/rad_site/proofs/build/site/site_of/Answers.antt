@@ -1,7 +1,7 @@
 use Rattle.std.proofs.Common.{Result, Err, refl}
 use Rattle.std.proofs.lemmas.Result.{err_from_is_err_and}
 use Rattle.rad_packet.specs.declared.client.Client.{Client}
-use Rattle.rad_core.specs.Policy.{Sources}
+use Rattle.rad_policy.specs.Policy.{Sources}
 use Rattle.rad_site.specs.declared.fault.BuildFault.{BuildFault}
 use Rattle.rad_site.specs.Site.{Site}
 use Rattle.rad_site.specs.Nodes.{◌>>=◌}

@@ -2,8 +2,8 @@ use Rattle.std.specs.Prelude.{IfOk}
 use Rattle.std.proofs.Common.{List, ap, ◌∙◌, subst}
 use Rattle.rad_dict.specs.Definitions.{Definitions}
 use Rattle.rad_wire.specs.Pairs.{pairs_of, requested}
-use Rattle.rad_core.specs.Answers.{arrived_of}
-use Rattle.rad_core.specs.Policy.{Reply}
+use Rattle.rad_policy.specs.Seen.{arrived_of}
+use Rattle.rad_policy.specs.Policy.{Reply}
 use Rattle.mod_files.specs.declared.entry.Entry.{Entry}
 use Rattle.rad_site.specs.Site.{Site}
 use Rattle.rad_site.specs.Access.{decided}

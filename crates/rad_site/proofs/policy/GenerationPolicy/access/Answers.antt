@@ -1,4 +1,4 @@
-use Rattle.rad_core.specs.Answers.{arrived_of}
+use Rattle.rad_policy.specs.Seen.{arrived_of}
 use Rattle.rad_site.proofs.Requests.{gives_outcome}
 use Rattle.rad_site.proofs.policy.GenerationPolicy.access.Goals as goal
 

@@ -1,6 +1,6 @@
 use Rattle.std.proofs.Common.{List, ap, subst}
 use Rattle.rad_core.specs.Entry.{Entry}
-use Rattle.rad_core.specs.Answers.{arrived_of}
+use Rattle.rad_policy.specs.Seen.{arrived_of}
 use Rattle.rad_core.specs.Core.{state_of}
 use Rattle.rad_site.specs.declared.fault.BuildFault.{BuildFault}
 use Rattle.rad_site.specs.Site.{Site}

@@ -2,7 +2,10 @@
 use Rattle.std.specs.Prelude.{ℕ, ◌≡◌, ◌⊎◌, List, Bool, Option, Result, Ok, Err}
 use Rattle.rad_outside.specs.Files.{File}
 use Rattle.rad_packet.specs.declared.client.Client.{Client}
-use Rattle.rad_core.specs.declared.arrival.Arrived.{Arrived}
+use Rattle.rad_packet.specs.Authentic.{IsAuthentic}
+use Rattle.rad_policy.specs.declared.arrival.Arrived.{Arrived}
+use Rattle.rad_policy.specs.declared.ending.Ending.{Ending}
+use Rattle.rad_policy.specs.declared.ending.Ending.TheVariants.{Sent, Withheld, OutOfMemory}
 
 -- What a site is built from: the map of its files, and its folder.
 pub record Sources : Type 0 where
@@ -31,3 +34,17 @@ abbrev pub IsBuilt : {P F : Type 0} → Meaning P F → Sources → Result P F �
 IsBuilt meaning sources (Ok generation) = meaning.built sources ≡ Ok generation
 IsBuilt meaning sources (Err fault) =
     (meaning.built sources ≡ Err fault) ⊎ ((fault ≡ meaning.memory_fault) ⊎ (fault ≡ meaning.read_fault))
+
+-- The datagram is authentic under this generation.
+abbrev pub IsAuthenticUnder : {P F : Type 0} → Meaning P F → P → Arrived → Type 0
+IsAuthenticUnder meaning generation arrival =
+    IsAuthentic arrival.bytes (meaning.client generation arrival.from.addr) arrival.kind
+
+-- The policy gives this ending for an arrival under a generation, at this moment, with this luck word and these answers
+-- of devices.
+abbrev pub GivesEnding : {P F : Type 0} → Meaning P F → P → Arrived → ℕ → ℕ → List Bool → Ending → Type 0
+GivesEnding meaning generation arrival moment luck answers (Sent octets) =
+    meaning.access generation arrival moment luck answers ≡ Replies octets
+GivesEnding meaning generation arrival moment luck answers Withheld =
+    meaning.access generation arrival moment luck answers ≡ Withholds
+GivesEnding meaning generation arrival moment luck answers OutOfMemory = Unit {0}

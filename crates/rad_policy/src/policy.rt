@@ -3,9 +3,9 @@ ghost use Rattle.std.specs.Option.{option_copied};
 ghost use Rattle.rad_outside.specs.Telling.{Tells, Counts};
 ghost use Rattle.rad_outside.specs.Files.{begun};
 ghost use Rattle.rad_outside.specs.declared.listen.ListenKind.TheVariants.{Auth};
-ghost use Rattle.rad_core.specs.Policy.{Meaning, IsBuilt};
-ghost use Rattle.rad_core.specs.Step.{IsAuthenticUnder};
-ghost use Rattle.rad_core.specs.Answers.{arrived_of, GivesOutcome, FitsDatagram};
+ghost use Rattle.rad_policy.specs.Policy.{Meaning, IsBuilt};
+ghost use Rattle.rad_policy.specs.Policy.{IsAuthenticUnder};
+ghost use Rattle.rad_policy.specs.Seen.{arrived_of, GivesOutcome, FitsDatagram};
 
 use crate::arrival::Arrival;
 use crate::outcome::Outcome;

@@ -1,5 +1,5 @@
 ghost use Rattle.std.specs.Prelude.{◌≡◌, IfOk};
-ghost use Rattle.rad_core.specs.Answers.{arrived_of};
+ghost use Rattle.rad_policy.specs.Seen.{arrived_of};
 
 use rad_outside::{ListenKind, NoMemory, Octets, Peer};
 use std::alloc::Global;
