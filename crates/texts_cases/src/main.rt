@@ -38,7 +38,9 @@ fn judged(rt: &HostRuntime) -> Result<ExitCode, NoMemory> {
     judge_configurations(rt, &mut tally)?;
     judge_users(rt, &mut tally)?;
     let mut wrong = Tally::new(rt.alloc());
-    judge_wrong(rt, &mut wrong)?;
+    judge_wrong_dictionaries(rt, &mut wrong)?;
+    judge_wrong_configurations(rt, &mut wrong)?;
+    judge_wrong_users(rt, &mut wrong)?;
     Ok(tally.finish(rt, &wrong))
 }
 
@@ -74,8 +76,7 @@ fn judge_users(rt: &HostRuntime, tally: &mut Tally) -> Result<(), NoMemory> {
     tally.judge_file(rt, &mut RunCases, Form::Blocks, "users_runs.cases")
 }
 
-/// Cases of each kind whose answers are wrong on purpose.
-fn judge_wrong(rt: &HostRuntime, wrong: &mut Tally) -> Result<(), NoMemory> {
+fn judge_wrong_dictionaries(rt: &HostRuntime, wrong: &mut Tally) -> Result<(), NoMemory> {
     wrong.judge_file(rt, &mut BaseCases, Form::Rows, "wrong_look_ups.cases")?;
     wrong.judge_file(
         rt,
@@ -88,10 +89,16 @@ fn judge_wrong(rt: &HostRuntime, wrong: &mut Tally) -> Result<(), NoMemory> {
         &mut DictionaryCases,
         Form::Blocks,
         "wrong_dictionaries.cases",
-    )?;
+    )
+}
+
+fn judge_wrong_configurations(rt: &HostRuntime, wrong: &mut Tally) -> Result<(), NoMemory> {
     wrong.judge_file(rt, &mut ConfTextCases, Form::Rows, "wrong_conf.cases")?;
     wrong.judge_file(rt, &mut ConfPathCases, Form::Rows, "wrong_paths.cases")?;
-    wrong.judge_file(rt, &mut ConfCases, Form::Blocks, "wrong_conf_files.cases")?;
+    wrong.judge_file(rt, &mut ConfCases, Form::Blocks, "wrong_conf_files.cases")
+}
+
+fn judge_wrong_users(rt: &HostRuntime, wrong: &mut Tally) -> Result<(), NoMemory> {
     wrong.judge_file(
         rt,
         &mut UsersTextCases,
