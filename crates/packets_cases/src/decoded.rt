@@ -1,0 +1,45 @@
+//! `decode`: the pairs of a request.
+
+use crate::pair_writing::pairs_text;
+use crate::request::{client, datagram};
+use rad_dict::{Dict, DictFault};
+use rad_edge::MemFiles;
+use rad_outside::{ListenKind, NoMemory};
+use rad_packet::check;
+use rad_value::ListName;
+use rad_wire::decode;
+use shared_cases::{Case, Subject};
+use std::alloc::Global;
+
+/// A secret, the lines of a dictionary beyond the base, and a request, for the request's pairs.
+#[derive(Drop)]
+pub struct DecodeCases;
+
+impl Subject for DecodeCases {
+    fn answer(&mut self, alloc: Global, case: &Case) -> Result<Vec<u8>, NoMemory> {
+        let secret = case.cell(0);
+        let client = client(alloc, b"192.168.1.16", secret)?;
+        let Some(dict) = dictionary(alloc, case.cell(1))? else {
+            return Ok(Vec::from_slice(alloc, b"the dictionary has a fault")?);
+        };
+        let octets = datagram(alloc, case.cell(2))?;
+        let Ok(packet) = check(octets.as_slice(), Some(&client), ListenKind::Auth) else {
+            return Ok(Vec::from_slice(alloc, b"dropped")?);
+        };
+        let lists = decode(alloc, &packet, secret, &dict)?;
+        if lists.len(ListName::Reply) != 0 || lists.len(ListName::Control) != 0 {
+            return Ok(Vec::from_slice(alloc, b"another list has a pair")?);
+        }
+        pairs_text(alloc, &lists, ListName::Request)
+    }
+}
+
+/// The base and what these lines add to it, or none where they have a fault.
+fn dictionary(alloc: Global, lines: &[u8]) -> Result<Option<Dict>, NoMemory> {
+    let mut files = MemFiles::new(Vec::new(alloc), Vec::new(alloc));
+    match Dict::of_file(alloc, &mut files, "dictionary", lines) {
+        Ok(dict) => Ok(Some(dict)),
+        Err(DictFault::NoMemory) => Err(NoMemory),
+        Err(_) => Ok(None),
+    }
+}

@@ -1,0 +1,33 @@
+//! `reply_bytes`: the octets of replies.
+
+use crate::pair_reading::push_reply_pairs;
+use crate::request::{client, datagram};
+use crate::spelled::as_wanted;
+use rad_outside::{ListenKind, NoMemory};
+use rad_packet::check;
+use rad_value::Lists;
+use rad_wire::reply_bytes;
+use shared_cases::{Case, Subject, decimal};
+use std::alloc::Global;
+
+/// A client's address and secret, its request, and a reply's code and pairs, for the reply's octets.
+#[derive(Drop)]
+pub struct ReplyCases;
+
+impl Subject for ReplyCases {
+    fn answer(&mut self, alloc: Global, case: &Case) -> Result<Vec<u8>, NoMemory> {
+        let client = client(alloc, case.text(b"client"), case.text(b"secret"))?;
+        let octets = datagram(alloc, case.text(b"request"))?;
+        let Ok(packet) = check(octets.as_slice(), Some(&client), ListenKind::Auth) else {
+            return Ok(Vec::from_slice(alloc, b"dropped")?);
+        };
+        let mut lists = Lists::new(alloc);
+        if !push_reply_pairs(alloc, &mut lists, case.text(b"pairs"))? {
+            return Ok(Vec::from_slice(alloc, b"a line is no pair")?);
+        }
+        let code = u8::try_from(decimal(case.text(b"code"))).unwrap_or(u8::MAX);
+        let secret = client.secret.as_slice();
+        let reply = reply_bytes(alloc, code, &lists, &packet, secret)?;
+        as_wanted(alloc, case.text(b"gives"), reply.as_slice())
+    }
+}
