@@ -17,7 +17,7 @@ use std::marker::Model;
 /// attribute, in any case of its ASCII letters.
 #[derive(Debug, Drop)]
 pub struct Dict {
-    rows: IndexedRows,
+    rows: Box<IndexedRows>,
 }
 
 impl Model for Dict {
@@ -26,9 +26,9 @@ impl Model for Dict {
 
     ghost Value = { Definitions };
 
-    ghost view = { λ d. d.rows };
+    ghost view = { λ d. d.rows.value };
 
-    ghost invariant = { λ d. IsDictionary d.rows };
+    ghost invariant = { λ d. IsDictionary d.rows.value };
 }
 
 impl Dict {
@@ -37,8 +37,9 @@ impl Dict {
     pub fn base(alloc: Global) -> Result<Dict, NoMemory>
         ensures { IfOk result (λ dict. dict ≡ base_definitions) }
     {
+        let rows = IndexedRows::base(alloc)?;
         Ok(Dict {
-            rows: IndexedRows::base(alloc)?,
+            rows: Box::new(alloc, rows)?,
         })
     }
 
@@ -49,8 +50,9 @@ impl Dict {
         ensures { IfOk result (λ dict. dict ≡ record { attrs = self.attrs ++ def ∷ []; values = self.values }) }
     {
         let Dict { rows } = self;
+        let rows = Box::into_inner(rows).with_attr(alloc, def)?;
         Ok(Dict {
-            rows: rows.with_attr(alloc, def)?,
+            rows: Box::new(alloc, rows)?,
         })
     }
 
@@ -61,8 +63,9 @@ impl Dict {
         ensures { IfOk result (λ dict. dict ≡ record { attrs = self.attrs; values = self.values ++ def ∷ [] }) }
     {
         let Dict { rows } = self;
+        let rows = Box::into_inner(rows).with_value(alloc, def)?;
         Ok(Dict {
-            rows: rows.with_value(alloc, def)?,
+            rows: Box::new(alloc, rows)?,
         })
     }
 
