@@ -41,12 +41,9 @@ impl Dict {
     pub fn base(alloc: Global) -> Result<Dict, NoMemory>
         ensures { IfOk result (λ dict. dict ≡ base_definitions) }
     {
-        let attrs = base_attrs(alloc)?;
-        let values = base_values(alloc)?;
-        Ok(Dict {
-            attrs: Box::new(alloc, attrs)?,
-            values: Box::new(alloc, values)?,
-        })
+        let attrs = Box::new(alloc, base_attrs(alloc)?)?;
+        let values = Box::new(alloc, base_values(alloc)?)?;
+        Ok(Dict { attrs, values })
     }
 
     /// The same with one more attribute, whose name stands for none.
