@@ -12,7 +12,6 @@ pub mod LineNumbers
 pub mod NameForms
 pub mod Lines
 pub mod Readings
-pub mod VendorKeys
 pub mod FirstReading
 pub mod Answers
 pub mod Steps

@@ -7,7 +7,7 @@ ghost use Rattle.rad_dict.specs.Rows.{attrs_of};
 ghost use Rattle.rad_dict.specs.Readings.{is_base};
 
 use crate::AttrDef;
-use crate::indexed_rows::IndexedRows;
+use crate::attr_rows::AttrRows;
 use rad_outside::{NoMemory, Octets};
 use rad_words::{AttrId, Kind, NameRow, Names, Space, names};
 use std::alloc::Global;
@@ -133,38 +133,38 @@ pub(crate) fn is_base(def: &AttrDef) -> bool
     }
 }
 
-/// The same with the base's attributes.
-pub(crate) fn add_base_attrs(alloc: Global, dict: IndexedRows) -> Result<IndexedRows, NoMemory>
-    ensures { IfOk result (λ new. new ≡ record { attrs = dict.attrs ++ base_attrs; values = dict.values }) }
+/// The attributes of the base.
+pub(crate) fn base_attrs(alloc: Global) -> Result<AttrRows, NoMemory>
+    ensures { IfOk result (λ rows. rows ≡ base_attrs) }
 {
-    let dict = add_table(alloc, dict, Space::Standard, standard())?;
-    add_table(alloc, dict, Space::Internal, internal())
+    let rows = add_table(alloc, AttrRows::new(alloc), Space::Standard, standard())?;
+    add_table(alloc, rows, Space::Internal, internal())
 }
 
 /// The same with the attributes of a table.
 fn add_table<const N: usize>(
     alloc: Global,
-    dict: IndexedRows,
+    rows: AttrRows,
     space: Space,
     table: AttrTable<N>,
-) -> Result<IndexedRows, NoMemory>
-    ensures { IfOk result (λ new. new ≡ record { attrs = dict.attrs ++ attrs_of space table.entry.names table.entry.kinds; values = dict.values }) }
+) -> Result<AttrRows, NoMemory>
+    ensures { IfOk result (λ new. new ≡ rows ++ attrs_of space table.entry.names table.entry.kinds) }
 {
     let AttrTable { names, kinds } = table;
-    add_rows(alloc, dict, space, names.rows(), &kinds)
+    add_rows(alloc, rows, space, names.rows(), &kinds)
 }
 
 fn add_rows(
     alloc: Global,
-    dict: IndexedRows,
+    rows: AttrRows,
     space: Space,
     names: &[NameRow],
     kinds: &[Kind],
-) -> Result<IndexedRows, NoMemory>
+) -> Result<AttrRows, NoMemory>
     requires { length names.now ≡ length kinds.now }
-    ensures { IfOk result (λ new. new ≡ record { attrs = dict.attrs ++ attrs_of space (map row_of names.now) kinds.now; values = dict.values }) }
+    ensures { IfOk result (λ new. new ≡ rows ++ attrs_of space (map row_of names.now) kinds.now) }
 {
-    let mut grown = dict;
+    let mut grown = rows;
     for (i, (name, number)) in names.iter().enumerate() {
         let def = AttrDef {
             id: AttrId {
@@ -174,7 +174,7 @@ fn add_rows(
             kind: kinds[i],
             name: Octets::of(alloc, name)?,
         };
-        grown = grown.with_attr(alloc, def)?;
+        grown = grown.with(alloc, def)?;
     }
     Ok(grown)
 }

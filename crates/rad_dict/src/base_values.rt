@@ -7,7 +7,7 @@ ghost use Rattle.rad_dict.specs.BaseValues.{base_values, value_names};
 ghost use Rattle.rad_dict.specs.Rows.{values_of};
 
 use crate::ValueDef;
-use crate::indexed_rows::IndexedRows;
+use crate::value_rows::ValueRows;
 use rad_outside::{NoMemory, Octets};
 use rad_words::{AttrId, NameRow, Names, Space, names};
 use std::alloc::Global;
@@ -163,44 +163,44 @@ fn nas_port_types() -> Names<6>
     ]
 }
 
-/// The same with the base's named values.
-pub(crate) fn add_base_values(alloc: Global, dict: IndexedRows) -> Result<IndexedRows, NoMemory>
-    ensures { IfOk result (λ new. new ≡ record { attrs = dict.attrs; values = dict.values ++ base_values }) }
+/// The named values of the base.
+pub(crate) fn base_values(alloc: Global) -> Result<ValueRows, NoMemory>
+    ensures { IfOk result (λ rows. rows ≡ base_values) }
 {
-    let dict = add_table(alloc, dict, 6, service_types())?;
-    let dict = add_table(alloc, dict, 7, framed_protocols())?;
-    let dict = add_table(alloc, dict, 10, framed_routings())?;
-    let dict = add_table(alloc, dict, 13, framed_compressions())?;
-    let dict = add_table(alloc, dict, 15, login_services())?;
-    let dict = add_table(alloc, dict, 29, termination_actions())?;
-    let dict = add_table(alloc, dict, 40, acct_status_types())?;
-    let dict = add_table(alloc, dict, 45, acct_authentics())?;
-    let dict = add_table(alloc, dict, 49, acct_terminate_causes())?;
-    add_table(alloc, dict, 61, nas_port_types())
+    let rows = add_table(alloc, ValueRows::new(alloc), 6, service_types())?;
+    let rows = add_table(alloc, rows, 7, framed_protocols())?;
+    let rows = add_table(alloc, rows, 10, framed_routings())?;
+    let rows = add_table(alloc, rows, 13, framed_compressions())?;
+    let rows = add_table(alloc, rows, 15, login_services())?;
+    let rows = add_table(alloc, rows, 29, termination_actions())?;
+    let rows = add_table(alloc, rows, 40, acct_status_types())?;
+    let rows = add_table(alloc, rows, 45, acct_authentics())?;
+    let rows = add_table(alloc, rows, 49, acct_terminate_causes())?;
+    add_table(alloc, rows, 61, nas_port_types())
 }
 
 /// The same with the values of a standard attribute's table.
 fn add_table<const N: usize>(
     alloc: Global,
-    dict: IndexedRows,
+    rows: ValueRows,
     attr: u32,
     table: Names<N>,
-) -> Result<IndexedRows, NoMemory>
-    ensures { IfOk result (λ new. new ≡ record { attrs = dict.attrs; values = dict.values ++ values_of attr table.entry }) }
+) -> Result<ValueRows, NoMemory>
+    ensures { IfOk result (λ new. new ≡ rows ++ values_of attr table.entry) }
 {
-    add_rows(alloc, dict, attr, table.rows())
+    add_rows(alloc, rows, attr, table.rows())
 }
 
 fn add_rows(
     alloc: Global,
-    dict: IndexedRows,
+    rows: ValueRows,
     attr: u32,
-    rows: &[NameRow],
-) -> Result<IndexedRows, NoMemory>
-    ensures { IfOk result (λ new. new ≡ record { attrs = dict.attrs; values = dict.values ++ values_of attr (map row_of rows.now) }) }
+    names: &[NameRow],
+) -> Result<ValueRows, NoMemory>
+    ensures { IfOk result (λ new. new ≡ rows ++ values_of attr (map row_of names.now)) }
 {
-    let mut grown = dict;
-    for (name, number) in rows {
+    let mut grown = rows;
+    for (name, number) in names {
         let def = ValueDef {
             attr: AttrId {
                 space: Space::Standard,
@@ -209,7 +209,7 @@ fn add_rows(
             number: *number,
             name: Octets::of(alloc, name)?,
         };
-        grown = grown.with_value(alloc, def)?;
+        grown = grown.with(alloc, def)?;
     }
     Ok(grown)
 }

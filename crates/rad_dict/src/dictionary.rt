@@ -5,7 +5,10 @@ ghost use Rattle.rad_dict.specs.Definitions.{attr_named, definition_of, name_of,
 ghost use Rattle.rad_dict.specs.NameForms.{is_attr_name, is_value_name};
 ghost use Rattle.rad_dict.specs.EveryDictionary.{IsDictionary};
 
-use crate::indexed_rows::IndexedRows;
+use crate::attr_rows::AttrRows;
+use crate::base_attributes::base_attrs;
+use crate::base_values::base_values;
+use crate::value_rows::ValueRows;
 use crate::{AttrDef, ValueDef};
 use rad_outside::NoMemory;
 use rad_words::AttrId;
@@ -17,7 +20,8 @@ use std::marker::Model;
 /// attribute, in any case of its ASCII letters.
 #[derive(Debug, Drop)]
 pub struct Dict {
-    rows: IndexedRows,
+    attrs: Box<AttrRows>,
+    values: Box<ValueRows>,
 }
 
 impl Model for Dict {
@@ -26,9 +30,9 @@ impl Model for Dict {
 
     ghost Value = { Definitions };
 
-    ghost view = { λ d. d.rows };
+    ghost view = { λ d. record { attrs = d.attrs.value; values = d.values.value } };
 
-    ghost invariant = { λ d. IsDictionary d.rows };
+    ghost invariant = { λ d. IsDictionary (record { attrs = d.attrs.value; values = d.values.value }) };
 }
 
 impl Dict {
@@ -37,9 +41,9 @@ impl Dict {
     pub fn base(alloc: Global) -> Result<Dict, NoMemory>
         ensures { IfOk result (λ dict. dict ≡ base_definitions) }
     {
-        Ok(Dict {
-            rows: IndexedRows::base(alloc)?,
-        })
+        let attrs = Box::new(alloc, base_attrs(alloc)?)?;
+        let values = Box::new(alloc, base_values(alloc)?)?;
+        Ok(Dict { attrs, values })
     }
 
     /// The same with one more attribute, whose name stands for none.
@@ -48,10 +52,10 @@ impl Dict {
         requires new { attr_named def.name self ≡ None }
         ensures { IfOk result (λ dict. dict ≡ record { attrs = self.attrs ++ def ∷ []; values = self.values }) }
     {
-        let Dict { rows } = self;
-        Ok(Dict {
-            rows: rows.with_attr(alloc, def)?,
-        })
+        let Dict { attrs, values } = self;
+        let attrs = Box::into_inner(attrs).with(alloc, def)?;
+        let attrs = Box::new(alloc, attrs)?;
+        Ok(Dict { attrs, values })
     }
 
     /// The same with one more named value, whose name stands for none of its attribute.
@@ -60,10 +64,10 @@ impl Dict {
         requires new { number_of def.attr def.name self ≡ None }
         ensures { IfOk result (λ dict. dict ≡ record { attrs = self.attrs; values = self.values ++ def ∷ [] }) }
     {
-        let Dict { rows } = self;
-        Ok(Dict {
-            rows: rows.with_value(alloc, def)?,
-        })
+        let Dict { attrs, values } = self;
+        let values = Box::into_inner(values).with(alloc, def)?;
+        let values = Box::new(alloc, values)?;
+        Ok(Dict { attrs, values })
     }
 
     /// What holds of every dictionary: the base's rows come first, each name is of its form, and no name stands for
@@ -71,28 +75,28 @@ impl Dict {
     pub fn each_name_means_one_thing(&self)
         ensures { IsDictionary self.now }
     {
-        let _ = &self.rows;
+        let _ = &self.attrs;
     }
 
     /// The attribute of this name, in any case of its ASCII letters.
     pub fn attr(&self, name: &[u8]) -> Option<&AttrDef>
         ensures { option_copied result ≡ attr_named name.now self.now }
     {
-        self.rows.attr(name)
+        self.attrs.named(name)
     }
 
     /// The first definition of this attribute.
     pub fn attr_of(&self, id: AttrId) -> Option<&AttrDef>
         ensures { option_copied result ≡ definition_of id self.now }
     {
-        self.rows.attr_of(id)
+        self.attrs.of(id)
     }
 
     /// The name of this value of the attribute.
     pub fn value_name(&self, id: AttrId, number: u32) -> Option<&[u8]>
         ensures { option_copied result ≡ name_of id number self.now }
     {
-        match self.rows.numbered(id, number) {
+        match self.values.numbered(id, number) {
             Some(row) => Some(row.name.as_slice()),
             None => None,
         }
@@ -102,7 +106,7 @@ impl Dict {
     pub fn value_number(&self, id: AttrId, name: &[u8]) -> Option<u32>
         ensures { result ≡ number_of id name.now self.now }
     {
-        match self.rows.named(id, name) {
+        match self.values.named(id, name) {
             Some(row) => Some(row.number),
             None => None,
         }

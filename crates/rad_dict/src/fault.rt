@@ -45,7 +45,7 @@ impl From<NoMemory> for DictFault {
 }
 
 /// What is wrong with a line, without its place.
-#[derive(Clone, Copy, Debug, PartialEq, Eq)]
+#[derive(Clone, Copy)]
 pub enum Wrong {
     BadLine,
     UnknownVendor,
@@ -53,7 +53,7 @@ pub enum Wrong {
 }
 
 /// Why a statement was not taken.
-#[derive(Clone, Copy, Debug, PartialEq, Eq)]
+#[derive(Clone, Copy)]
 pub enum LineFault {
     NoMemory,
     Wrong(Wrong),

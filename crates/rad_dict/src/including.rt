@@ -1,15 +1,15 @@
 //! Dictionary files that are read, with the files that they include.
 
-ghost use Rattle.std.specs.Prelude.{◌≡◌, ◌≢◌, ◌<◌, ◌≤◌, Some, length, OnOk};
+ghost use Rattle.std.specs.Prelude.{◌≡◌, ◌≢◌, ◌<◌, ◌≤◌, Some, length, IsErr, OnOk};
 ghost use Rattle.rad_outside.specs.Telling.{Tells, Counts};
 ghost use Rattle.rad_dict.specs.Answers.{IsAnswer};
-ghost use Rattle.rad_dict.specs.Steps.{folder};
+ghost use Rattle.rad_dict.specs.Steps.{folder, place_at};
 ghost use Rattle.rad_dict.specs.Includes.{counted, ended, source_at, include_read, text_read, last_part, dict_from, dict_of};
 
 use crate::Dict;
-use crate::fault::DictFault;
+use crate::fault::{DictFault, Wrong};
 use crate::reading::Reading;
-use crate::step::{Step, folder_len, joined, place_at, step_of};
+use crate::step::{Step, folder_len, joined, place_at, step_of, wrong_at};
 use crate::text_lines::first_line;
 use rad_outside::{Files, Found, Octets, Place};
 use std::alloc::Global;
@@ -36,7 +36,7 @@ fn counted(alloc: Global, file: &[u8], text: &[u8], reading: Reading) -> Result<
     } = reading;
     let octets = octets.saturating_add(text.len());
     if octets > LONGEST {
-        return Err(DictFault::TooLong(place_at(alloc, file, 0)?));
+        return too_long(alloc, file);
     }
     Ok(Reading {
         dict,
@@ -46,6 +46,15 @@ fn counted(alloc: Global, file: &[u8], text: &[u8], reading: Reading) -> Result<
     })
 }
 
+/// The answer that the files are too long together, at the file that makes them so.
+fn too_long<T>(alloc: Global, file: &[u8]) -> Result<T, DictFault>
+    ensures exact { IsAnswer (Err (DictFault.TooLong (place_at file.now 0))) result }
+    ensures works { result ≢ Err DictFault.ReadFault }
+    ensures fault { IsErr result }
+{
+    Err(DictFault::TooLong(place_at(alloc, file, 0)?))
+}
+
 /// A file's end, where no vendor may be present.
 #[tactic(auto, unfolding(crate::specs::Includes::ended))]
 fn ended(alloc: Global, file: &[u8], reading: Reading) -> Result<Reading, DictFault>
@@ -53,7 +62,7 @@ fn ended(alloc: Global, file: &[u8], reading: Reading) -> Result<Reading, DictFa
     ensures works { result ≢ Err DictFault.ReadFault }
 {
     if reading.present.is_some() {
-        return Err(DictFault::BadLine(place_at(alloc, file, 0)?));
+        return wrong_at(alloc, file, 0, Wrong::BadLine);
     }
     Ok(reading)
 }

@@ -4,6 +4,7 @@
 //! ASCII case. Above it stand packets, texts of pairs and policies, which look names and kinds up here.
 #![tactic(auto)]
 
+mod attr_rows;
 mod base_attributes;
 mod base_values;
 mod definitions;
@@ -11,7 +12,6 @@ mod dictionary;
 mod fault;
 mod including;
 mod index;
-mod indexed_rows;
 mod keys;
 mod line;
 mod line_numbers;
@@ -21,6 +21,7 @@ mod reading;
 mod search;
 mod step;
 mod text_lines;
+mod value_rows;
 mod vendors;
 
 pub use definitions::{AttrDef, ValueDef};

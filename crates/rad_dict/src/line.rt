@@ -11,7 +11,7 @@ use crate::name_forms::{is_attr_name, is_value_name};
 use rad_words::Kind;
 
 /// What a line states.
-#[derive(Clone, Copy, Debug)]
+#[derive(Clone, Copy)]
 pub enum Statement<'a> {
     Nothing,
     /// A name, a number and a kind.
@@ -27,7 +27,7 @@ pub enum Statement<'a> {
 }
 
 /// A line that states something, or includes the file of a path.
-#[derive(Clone, Copy, Debug)]
+#[derive(Clone, Copy)]
 pub enum Line<'a> {
     States(Statement<'a>),
     Include(&'a [u8]),

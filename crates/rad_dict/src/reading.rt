@@ -179,7 +179,7 @@ impl Reading {
         })
     }
 
-    fn with_vendor(self, alloc: Global, vendor: Vendor) -> Result<Reading, NoMemory>
+    fn with_vendor(self, vendor: Vendor) -> Result<Reading, NoMemory>
         ensures { IfOk result (λ reading. reading ≡ readings.with_vendor vendor self) }
     {
         let Reading {
@@ -190,7 +190,7 @@ impl Reading {
         } = self;
         Ok(Reading {
             dict,
-            vendors: vendors.with(alloc, vendor)?,
+            vendors: vendors.with(vendor)?,
             present,
             octets,
         })
@@ -224,11 +224,11 @@ impl Reading {
 
     /// A vendor is defined, unless its name stands.
     #[tactic(auto, unfolding(crate::specs::Readings::vendor_defined))]
-    fn define_vendor(self, alloc: Global, vendor: Vendor) -> Result<Reading, LineFault>
+    fn define_vendor(self, vendor: Vendor) -> Result<Reading, LineFault>
         ensures { Gives result (readings.vendor_defined vendor self) }
     {
         match vendor_number(&self.vendors, vendor.name.as_slice()) {
-            None => Ok(self.with_vendor(alloc, vendor)?),
+            None => Ok(self.with_vendor(vendor)?),
             Some(number) if number == vendor.number => Ok(self),
             Some(_) => Err(LineFault::Wrong(Wrong::Taken)),
         }
@@ -284,7 +284,7 @@ impl Reading {
         ensures { Gives result (readings.after (vendor name.now number) self) }
     {
         let name = Octets::of(alloc, name)?;
-        self.define_vendor(alloc, Vendor { name, number })
+        self.define_vendor(Vendor { name, number })
     }
 
     /// The vendor of this name is present.

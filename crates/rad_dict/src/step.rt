@@ -39,6 +39,14 @@ fn fault_of(place: Place, wrong: Wrong) -> DictFault
     }
 }
 
+/// The answer that something is wrong at a line of a file.
+pub fn wrong_at<T>(alloc: Global, file: &[u8], line: u32, wrong: Wrong) -> Result<T, DictFault>
+    ensures exact { IsAnswer (Err (fault_of (place_at file.now line) wrong)) result }
+    ensures works { result ≢ Err DictFault.ReadFault }
+{
+    Err(fault_of(place_at(alloc, file, line)?, wrong))
+}
+
 /// How many octets of a path name its folder, with the slash at its end.
 #[tactic(auto, unfolding(crate::specs::Steps::folder_len))]
 pub fn folder_len(path: &[u8]) -> usize
@@ -75,6 +83,19 @@ pub fn joined(alloc: Global, folder: &[u8], path: &[u8]) -> Result<Octets, NoMem
     Ok(Octets::from_vec(octets))
 }
 
+/// The place of the line that includes a path, and that path beside the line's file.
+fn include_at(
+    alloc: Global,
+    file: &[u8],
+    line: u32,
+    path: &[u8],
+) -> Result<(Place, Octets), NoMemory>
+    ensures place { IfOk result (λ found. found.0 ≡ place_at file.now line) }
+    ensures path { IfOk result (λ found. found.1 ≡ beside file.now path.now) }
+{
+    Ok((place_at(alloc, file, line)?, beside(alloc, file, path)?))
+}
+
 /// What a line of a file does.
 #[tactic(auto, unfolding(crate::specs::Steps::step_of))]
 pub fn step_of(
@@ -88,16 +109,15 @@ pub fn step_of(
     ensures works { result ≢ Err DictFault.ReadFault }
 {
     match line_at(text) {
-        None => Err(DictFault::BadLine(place_at(alloc, file, line)?)),
-        Some(Line::Include(path)) => Ok(Step::Includes(
-            place_at(alloc, file, line)?,
-            beside(alloc, file, path)?,
-            reading,
-        )),
+        None => wrong_at(alloc, file, line, Wrong::BadLine),
+        Some(Line::Include(path)) => {
+            let (place, path) = include_at(alloc, file, line, path)?;
+            Ok(Step::Includes(place, path, reading))
+        }
         Some(Line::States(statement)) => match reading.after(alloc, statement) {
             Ok(reading) => Ok(Step::Goes(reading)),
             Err(LineFault::NoMemory) => Err(DictFault::NoMemory),
-            Err(LineFault::Wrong(wrong)) => Err(fault_of(place_at(alloc, file, line)?, wrong)),
+            Err(LineFault::Wrong(wrong)) => wrong_at(alloc, file, line, wrong),
         },
     }
 }

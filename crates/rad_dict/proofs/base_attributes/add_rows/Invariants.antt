@@ -4,7 +4,4 @@ use Rattle.rad_dict.specs.Rows.{attrs_of}
 use Rattle.rad_dict.proofs.base_attributes.add_rows.Given as goal
 
 abbrev pub invariant-loop-i : goal.invariant-loop-i
-invariant-loop-i l = record {
-  attrs : l.grown.attrs ++ attrs_of l.space (map row_of (drop l.i l.names)) (drop l.i l.kinds) ≡ l.initial.grown.attrs ++ attrs_of l.space (map row_of l.names) l.kinds;
-  values : l.grown.values ≡ l.initial.grown.values;
-}
+invariant-loop-i l = l.grown ++ attrs_of l.space (map row_of (drop l.i l.names)) (drop l.i l.kinds) ≡ l.initial.grown ++ attrs_of l.space (map row_of l.names) l.kinds

@@ -1,19 +1,18 @@
 use Rattle.std.proofs.Common.{◌≡◌, Bool, List, refl, ap, ◌∙◌}
 use Rattle.std.specs.List.{find}
 use Rattle.rad_dict.specs.declared.definitions.ValueDef.{ValueDef}
-use Rattle.rad_dict.specs.Definitions.{Definitions}
 use Rattle.rad_dict.specs.Places.{places_of}
 use Rattle.rad_dict.specs.Search.{found_at}
 use Rattle.rad_dict.specs.Definitions.{is_name_of}
 use Rattle.rad_dict.specs.Keys.{by_value_name, name_key, attr_key}
 use Rattle.rad_dict.proofs.Indexed.{looked_up, by_value_name_only}
-use Rattle.rad_dict.proofs.indexed_rows.IndexedRows.named.Goals as goal
+use Rattle.rad_dict.proofs.value_rows.ValueRows.named.Goals as goal
 
 pub returns : goal.returns
 returns c =
     let test : ValueDef → Bool = is_name_of c.args.id c.args.name.now in
     let places = c.places-places.result.now in
-    let at : places ≡ places_of (name_key (attr_key c.args.id) c.args.name.now) c.self.inside.value_names = rw (c.places-places.ensures, c.name_key.ensures, c.attr_key.ensures) refl in
+    let at : places ≡ places_of (name_key (attr_key c.args.id) c.args.name.now) c.self.inside.names = rw (c.places-places.ensures, c.name_key.ensures, c.attr_key.ensures) refl in
     c.value_named_at.ensures ∙ ap (λ (rows : List ValueDef). found_at test rows places) c.as_slice.ensures.value
-    ∙ looked_up test by_value_name (name_key (attr_key c.args.id) c.args.name.now) (by_value_name_only c.args.id c.args.name.now) c.self.inside.values.items c.self.inside.value_names places at c.self.invariant.3
-    ∙ ap (λ (d : Definitions). find test d.values) c.self.view_is
+    ∙ looked_up test by_value_name (name_key (attr_key c.args.id) c.args.name.now) (by_value_name_only c.args.id c.args.name.now) c.self.inside.rows.items c.self.inside.names places at c.self.invariant.1
+    ∙ ap (find test) c.self.view_is

@@ -1,19 +1,18 @@
 use Rattle.std.proofs.Common.{◌≡◌, Bool, List, refl, ap, ◌∙◌}
 use Rattle.std.specs.List.{find}
 use Rattle.rad_dict.specs.declared.definitions.ValueDef.{ValueDef}
-use Rattle.rad_dict.specs.Definitions.{Definitions}
 use Rattle.rad_dict.specs.Places.{places_of}
 use Rattle.rad_dict.specs.Search.{found_at}
 use Rattle.rad_dict.specs.Definitions.{is_number_of}
 use Rattle.rad_dict.specs.Keys.{by_value, key_with, attr_key}
 use Rattle.rad_dict.proofs.Indexed.{looked_up, by_value_only}
-use Rattle.rad_dict.proofs.indexed_rows.IndexedRows.numbered.Goals as goal
+use Rattle.rad_dict.proofs.value_rows.ValueRows.numbered.Goals as goal
 
 pub returns : goal.returns
 returns c =
     let test : ValueDef → Bool = is_number_of c.args.id c.args.number in
     let places = c.places-places.result.now in
-    let at : places ≡ places_of (key_with (attr_key c.args.id) c.args.number) c.self.inside.value_numbers = rw (c.places-places.ensures, c.key_with-key.ensures, c.attr_key.ensures, c.from.ensures) refl in
+    let at : places ≡ places_of (key_with (attr_key c.args.id) c.args.number) c.self.inside.numbers = rw (c.places-places.ensures, c.key_with-key.ensures, c.attr_key.ensures, c.from.ensures) refl in
     c.value_numbered_at.ensures ∙ ap (λ (rows : List ValueDef). found_at test rows places) c.as_slice.ensures.value
-    ∙ looked_up test by_value (key_with (attr_key c.args.id) c.args.number) (by_value_only c.args.id c.args.number) c.self.inside.values.items c.self.inside.value_numbers places at c.self.invariant.2
-    ∙ ap (λ (d : Definitions). find test d.values) c.self.view_is
+    ∙ looked_up test by_value (key_with (attr_key c.args.id) c.args.number) (by_value_only c.args.id c.args.number) c.self.inside.rows.items c.self.inside.numbers places at c.self.invariant.0
+    ∙ ap (find test) c.self.view_is
