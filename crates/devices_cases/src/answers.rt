@@ -37,9 +37,9 @@ pub fn say_no_call(answers: &mut Vec<u8>, name: &[u8]) -> Result<(), NoMemory> {
     say(answers, &[b"there is no call ", name])
 }
 
-/// What stands before the first blank of a text, and what stands behind it.
-pub fn parted(text: &[u8]) -> (&[u8], &[u8]) {
-    let mut parts = text.splitn(2, |octet| *octet == b' ');
+/// What stands before the first of these octets in a text, and what stands behind it.
+pub fn parted(text: &[u8], at: u8) -> (&[u8], &[u8]) {
+    let mut parts = text.splitn(2, |octet| *octet == at);
     let first = parts.next().unwrap_or(&[]);
     (first, parts.next().unwrap_or(&[]))
 }

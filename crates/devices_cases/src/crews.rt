@@ -37,7 +37,7 @@ fn crew_of(alloc: Global, case: &Case) -> Result<KitsInMemory, NoMemory> {
     let mut crew = MemCrew::new(alloc, numbers(alloc, case.text(b"failing"))?);
     for field in &case.fields {
         if field.name.as_slice() == b"kit".as_slice() {
-            let (listener, rest) = parted(field.text.as_slice());
+            let (listener, rest) = parted(field.text.as_slice(), b' ');
             let listener = decimal(listener) % 0x0001_0000_0000;
             crew.add(kit_of(alloc, listener as u32, rest == b"control".as_slice()))?;
         }
@@ -81,7 +81,6 @@ fn call<C: Crew<MemWire, MemShelf, ListClock, ListLuck, OpenGate>>(
     };
     match crew.kit(alloc, 0, listen, control) {
         Ok(mut kit) => {
-            is_sent(&kit);
             kit.gate.at(Point::BeforeSend, 1);
             answers.extend_from_slice(b"kit ")?;
             push_number(alloc, answers, u64::from(kit.listener))?;
@@ -91,6 +90,3 @@ fn call<C: Crew<MemWire, MemShelf, ListClock, ListLuck, OpenGate>>(
         Err(KitFault::NoMemory) => Err(NoMemory),
     }
 }
-
-/// A kit may be handed to another thread: else there is no such call.
-fn is_sent<T: Send>(_value: &T) {}

@@ -33,7 +33,7 @@ fn files_of(alloc: Global, case: &Case) -> Result<MemFiles, NoMemory> {
 
 /// Adds a path and the octets behind it to the last map, if there is one.
 fn add_file(alloc: Global, maps: &mut Vec<FileMap>, text: &[u8]) -> Result<(), NoMemory> {
-    let (path, octets) = parted(text);
+    let (path, octets) = parted(text, b' ');
     let file = (Octets::of(alloc, path)?, Octets::of(alloc, octets)?);
     if let Some(map) = maps.last_mut() {
         map.push(file)?;

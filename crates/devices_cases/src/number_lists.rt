@@ -9,7 +9,7 @@ pub fn clock_answers(alloc: Global, case: &Case) -> Result<Vec<u8>, NoMemory> {
     let mut clock = ListClock::new(numbers(alloc, case.text(b"list"))?);
     let mut answers = Vec::new(alloc);
     for _ in 0..decimal(case.text(b"now")) {
-        push_line(alloc, &mut answers, moment_of(&mut clock))?;
+        push_line(alloc, &mut answers, clock.now())?;
     }
     Ok(answers)
 }
@@ -19,17 +19,9 @@ pub fn luck_answers(alloc: Global, case: &Case) -> Result<Vec<u8>, NoMemory> {
     let mut luck = ListLuck::new(numbers(alloc, case.text(b"list"))?);
     let mut answers = Vec::new(alloc);
     for _ in 0..decimal(case.text(b"word")) {
-        push_line(alloc, &mut answers, word_of(&mut luck))?;
+        push_line(alloc, &mut answers, luck.word())?;
     }
     Ok(answers)
-}
-
-fn moment_of<K: Clock>(clock: &mut K) -> u64 {
-    clock.now()
-}
-
-fn word_of<U: Luck>(luck: &mut U) -> u64 {
-    luck.word()
 }
 
 /// Writes a number, and ends its line.

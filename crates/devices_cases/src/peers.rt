@@ -1,21 +1,25 @@
 //! How an address and a port are written: `192.168.1.16:1024`.
 
+use crate::answers::parted;
 use rad_edge::{NoMemory, Peer};
 use shared_cases::decimal;
 use std::alloc::Global;
 
 /// The address and port that a text says.
 pub fn peer_of(text: &[u8]) -> Peer {
-    let mut parts = text.splitn(2, |octet| *octet == b':');
-    let mut addr = 0u32;
-    for number in parts.next().unwrap_or(&[]).split(|octet| *octet == b'.') {
-        addr = (addr % 0x0100_0000) * 256 + (decimal(number) % 256) as u32;
-    }
-    let port = decimal(parts.next().unwrap_or(&[])) % 65_536;
+    let (address, port) = parted(text, b':');
+    let (first, rest) = parted(address, b'.');
+    let (second, rest) = parted(rest, b'.');
+    let (third, fourth) = parted(rest, b'.');
     Peer {
-        addr,
-        port: port as u16,
+        addr: u32::from_be_bytes([first, second, third, fourth].map(octet_of)),
+        port: (decimal(port) % 65_536) as u16,
     }
+}
+
+/// The octet that the decimal digits of a text say.
+fn octet_of(text: &[u8]) -> u8 {
+    (decimal(text) % 256) as u8
 }
 
 /// The text of an address and port.

@@ -46,7 +46,7 @@ fn call(
 
 /// Appends what stands behind a path, which has to be something.
 fn append<S: Shelf>(shelf: &mut S, text: &[u8], answers: &mut Vec<u8>) -> Result<(), NoMemory> {
-    let (path, piece) = parted(text);
+    let (path, piece) = parted(text, b' ');
     if piece.is_empty() {
         return say(answers, &[b"no piece"]);
     }

@@ -22,7 +22,7 @@ fn wire_of(alloc: Global, case: &Case) -> Result<MemWire, NoMemory> {
     for field in &case.fields {
         match field.name.as_slice() {
             b"datagram" => {
-                let (from, octets) = parted(field.text.as_slice());
+                let (from, octets) = parted(field.text.as_slice(), b' ');
                 script.push(Cue::Datagram(Octets::of(alloc, octets)?, peer_of(from)))?;
             }
             b"quiet" => script.push(Cue::Quiet)?,
@@ -78,7 +78,7 @@ fn receive<W: Wire>(
 
 /// Hands the wire what stands behind an address.
 fn send<W: Wire>(wire: &mut W, text: &[u8], answers: &mut Vec<u8>) -> Result<(), NoMemory> {
-    let (to, octets) = parted(text);
+    let (to, octets) = parted(text, b' ');
     say_whether_done(answers, wire.send(peer_of(to), octets))
 }
 
