@@ -66,24 +66,43 @@ fn kit_of(alloc: Global, listener: u32, with_control: bool) -> MemKit
 }
 
 /// Makes the call of a field, if it is one.
-fn call<C: Crew<MemWire, MemShelf, ListClock, ListLuck, OpenGate>>(
+fn call(
     alloc: Global,
-    crew: &mut C,
+    crew: &mut KitsInMemory,
     listen: &Listen,
     field: &Field,
     answers: &mut Vec<u8>,
 ) -> Result<(), NoMemory> {
-    let control = match field.name.as_slice() {
-        b"device" | b"kit" | b"failing" | b"gives" => return Ok(()),
-        b"take" => None,
-        b"take_with_control" => Some(listen),
-        name => return say_no_call(answers, name),
-    };
-    match crew.kit(alloc, 0, listen, control) {
-        Ok(mut kit) => {
-            kit.gate.at(Point::BeforeSend, 1);
+    match field.name.as_slice() {
+        b"device" | b"kit" | b"failing" | b"gives" => Ok(()),
+        b"take" => say_kit(alloc, answers, take(alloc, crew, listen, None)),
+        b"take_with_control" => say_kit(alloc, answers, take(alloc, crew, listen, Some(listen))),
+        name => say_no_call(answers, name),
+    }
+}
+
+/// The number of the listener of the kit that the crew hands out, after its gate was passed.
+fn take<C: Crew<MemWire, MemShelf, ListClock, ListLuck, OpenGate>>(
+    alloc: Global,
+    crew: &mut C,
+    listen: &Listen,
+    control: Option<&Listen>,
+) -> Result<u32, KitFault> {
+    let mut kit = crew.kit(alloc, 0, listen, control)?;
+    kit.gate.at(Point::BeforeSend, 1);
+    Ok(kit.listener)
+}
+
+/// Writes the number of the listener of a kit, or that there was none.
+fn say_kit(
+    alloc: Global,
+    answers: &mut Vec<u8>,
+    listener: Result<u32, KitFault>,
+) -> Result<(), NoMemory> {
+    match listener {
+        Ok(listener) => {
             answers.extend_from_slice(b"kit ")?;
-            push_number(alloc, answers, u64::from(kit.listener))?;
+            push_number(alloc, answers, u64::from(listener))?;
             say(answers, &[])
         }
         Err(KitFault::Failed) => say(answers, &[b"failed"]),
