@@ -16,18 +16,24 @@ pub struct ReplyCases;
 
 impl Subject for ReplyCases {
     fn answer(&mut self, alloc: Global, case: &Case) -> Result<Vec<u8>, NoMemory> {
-        let client = client(alloc, case.text(b"client"), case.text(b"secret"))?;
-        let octets = datagram(alloc, case.text(b"request"))?;
-        let Ok(packet) = check(octets.as_slice(), Some(&client), ListenKind::Auth) else {
-            return Ok(Vec::from_slice(alloc, b"dropped")?);
-        };
         let mut lists = Lists::new(alloc);
-        if !push_reply_pairs(alloc, &mut lists, case.text(b"pairs"))? {
-            return Ok(Vec::from_slice(alloc, b"a line is no pair")?);
+        if push_reply_pairs(alloc, &mut lists, case.text(b"pairs"))? {
+            reply(alloc, case, &lists)
+        } else {
+            Ok(Vec::from_slice(alloc, b"a line is no pair")?)
         }
-        let code = u8::try_from(decimal(case.text(b"code"))).unwrap_or(u8::MAX);
-        let secret = client.secret.as_slice();
-        let reply = reply_bytes(alloc, code, &lists, &packet, secret)?;
-        as_wanted(alloc, case.text(b"gives"), reply.as_slice())
     }
+}
+
+/// The reply to a case's request, with the pairs of these lists.
+fn reply(alloc: Global, case: &Case, lists: &Lists) -> Result<Vec<u8>, NoMemory> {
+    let secret = case.text(b"secret");
+    let client = client(alloc, case.text(b"client"), secret)?;
+    let octets = datagram(alloc, case.text(b"request"))?;
+    let Ok(packet) = check(octets.as_slice(), Some(&client), ListenKind::Auth) else {
+        return Ok(Vec::from_slice(alloc, b"dropped")?);
+    };
+    let code = u8::try_from(decimal(case.text(b"code"))).unwrap_or(u8::MAX);
+    let reply = reply_bytes(alloc, code, lists, &packet, secret)?;
+    as_wanted(alloc, case.text(b"gives"), reply.as_slice())
 }

@@ -10,8 +10,8 @@ pub type File = (Octets, Octets);
 /// A run: the words, and what its devices hold and do.
 #[derive(Drop)]
 pub struct Plan {
-    /// The words of the command line, where the case says others than the usual ones.
-    pub words: Option<Vec<String>>,
+    /// The words of the command line.
+    pub words: Vec<String>,
     /// The maps of files, the first of which is present at the start.
     pub maps: Vec<Vec<File>>,
     /// What the wire answers, in order.
@@ -27,21 +27,20 @@ pub struct Plan {
     pub failing_sends: Vec<u64>,
     pub failing_writes: Vec<u64>,
     pub failing_kits: Vec<u64>,
-    /// Which appends fail, by their numbers, and how many octets are appended all the same: of the kit's shelf, and of the
-    /// session log, for which the first run's count.
+    /// Which appends to the kit's shelf fail, by their numbers, and how many octets are appended all the same.
     pub failing_appends: Vec<(u64, usize)>,
-    pub failing_log: Vec<(u64, usize)>,
     /// Whether the crew has a kit to hand out.
     pub has_kit: bool,
 }
 
 impl Plan {
-    /// The run of a case that says nothing: no file, no datagram, no failure, the source 192.168.1.16 at port 1234.
+    /// The run of a case that says nothing: the words that serve the folder `site`, no file, no datagram, no failure, and
+    /// the source 192.168.1.16 at port 1234.
     pub fn new(alloc: Global) -> Result<Plan, NoMemory> {
-        let mut maps = Vec::new(alloc);
-        maps.push(Vec::new(alloc))?;
+        let words = usual_words(alloc)?;
+        let maps = one_map(alloc)?;
         Ok(Plan {
-            words: None,
+            words,
             maps,
             script: Vec::new(alloc),
             from: Peer {
@@ -56,8 +55,23 @@ impl Plan {
             failing_writes: Vec::new(alloc),
             failing_kits: Vec::new(alloc),
             failing_appends: Vec::new(alloc),
-            failing_log: Vec::new(alloc),
             has_kit: true,
         })
     }
+}
+
+/// The words that serve the folder `site`.
+fn usual_words(alloc: Global) -> Result<Vec<String>, NoMemory> {
+    let mut words = Vec::new(alloc);
+    for word in ["radiusd", "-s", "-d", "site"] {
+        words.push(String::from_str(alloc, word)?)?;
+    }
+    Ok(words)
+}
+
+/// One map without files.
+fn one_map(alloc: Global) -> Result<Vec<Vec<File>>, NoMemory> {
+    let mut maps = Vec::new(alloc);
+    maps.push(Vec::new(alloc))?;
+    Ok(maps)
 }

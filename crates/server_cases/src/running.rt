@@ -1,14 +1,13 @@
 //! Runs of the server over devices in memory.
 
 use crate::plan::Plan;
-use crate::script::plans_of;
+use crate::script::{Script, script_of};
 use crate::transcript::{push_log, push_run};
 use rad_edge::{ListClock, ListLuck, MemCrew, MemFiles, MemShelf, MemSink, MemWire, OpenGate};
 use rad_outside::{Kit, NoMemory, Octets};
 use radiusd::{Hub, radiusd};
 use shared_cases::{Case, Subject};
 use std::alloc::Global;
-use std::mem;
 use std::sync::Wait;
 
 /// The kits of memory.
@@ -25,30 +24,42 @@ pub struct Server<'a, R> {
 
 impl<R: Wait> Subject for Server<'_, R> {
     fn answer(&mut self, alloc: Global, case: &Case) -> Result<Vec<u8>, NoMemory> {
-        match plans_of(alloc, case)? {
-            Ok(plans) => run_all(self.rt, alloc, plans),
-            Err(why) => Ok(why),
+        let script = script_of(alloc, case)?;
+        if !script.is_read {
+            return Ok(Vec::from_slice(alloc, b"a field is none that a case can have\n")?);
         }
+        let mut did = Vec::new(alloc);
+        run_all(self.rt, alloc, script, &mut did)?;
+        Ok(did)
     }
 }
 
-/// All runs of a case, one after another on one hub, and what they did.
-fn run_all<R: Wait>(rt: &R, alloc: Global, mut plans: Vec<Plan>) -> Result<Vec<u8>, NoMemory> {
-    let mut did = Vec::new(alloc);
-    let path = Octets::of(alloc, "radutmp.log".as_bytes())?;
-    let failing_log = match plans.first_mut() {
-        Some(first) => mem::replace(&mut first.failing_log, Vec::new(alloc)),
-        None => Vec::new(alloc),
-    };
-    let mut hub = Hub::new(alloc, MemShelf::new(alloc, failing_log), path)?;
+/// Writes what all runs of a case do, one after another on one hub.
+fn run_all<R: Wait>(
+    rt: &R,
+    alloc: Global,
+    script: Script,
+    did: &mut Vec<u8>,
+) -> Result<(), NoMemory> {
+    let Script {
+        plans,
+        failing_log,
+        is_read: _,
+    } = script;
+    let mut hub = hub_of(alloc, failing_log)?;
     for plan in plans {
-        run(rt, alloc, plan, &mut hub, &mut did)?;
+        run(rt, alloc, plan, &mut hub, did)?;
     }
-    push_log(alloc, &mut did, &hub.into_log())?;
-    Ok(did)
+    push_log(alloc, did, &hub.into_log())
 }
 
-/// One run on a hub, and what it did.
+/// A hub on which nothing has happened, whose session log fails at these appends.
+fn hub_of(alloc: Global, failing_log: Vec<(u64, usize)>) -> Result<Hub<MemShelf>, NoMemory> {
+    let path = Octets::of(alloc, "radutmp.log".as_bytes())?;
+    Hub::new(alloc, MemShelf::new(alloc, failing_log), path)
+}
+
+/// Writes what one run on a hub does.
 fn run<R: Wait>(
     rt: &R,
     alloc: Global,
@@ -56,50 +67,52 @@ fn run<R: Wait>(
     hub: &mut Hub<MemShelf>,
     did: &mut Vec<u8>,
 ) -> Result<(), NoMemory> {
-    let mut crew = MemCrew::new(alloc, plan.failing_kits);
-    if plan.has_kit {
+    let Plan {
+        words,
+        maps,
+        script,
+        from: _,
+        moments,
+        luck,
+        failing_reads,
+        failing_receives,
+        failing_sends,
+        failing_writes,
+        failing_kits,
+        failing_appends,
+        has_kit,
+    } = plan;
+    let mut crew = MemCrew::new(alloc, failing_kits);
+    if has_kit {
         add_kit(
-            alloc,
             &mut crew,
-            MemWire::new(
-                alloc,
-                plan.script,
-                plan.failing_receives,
-                plan.failing_sends,
-            ),
-            ListClock::new(plan.moments),
-            ListLuck::new(plan.luck),
-            MemShelf::new(alloc, plan.failing_appends),
+            MemWire::new(alloc, script, failing_receives, failing_sends),
+            MemShelf::new(alloc, failing_appends),
+            ListClock::new(moments),
+            ListLuck::new(luck),
         )?;
     }
-    let words = match plan.words {
-        Some(words) => words,
-        None => usual_words(alloc)?,
-    };
-    let mut files = MemFiles::new(plan.maps, plan.failing_reads);
-    let mut out = MemSink::new(alloc, plan.failing_writes);
-    let mut kits = Vec::new(alloc);
-    let status = radiusd(
+    let mut files = MemFiles::new(maps, failing_reads);
+    let out = MemSink::new(alloc, failing_writes);
+    serve(
         rt,
         alloc,
         words.as_slice(),
         &mut files,
         &mut crew,
-        &mut kits,
         hub,
-        &mut out,
-    );
-    push_run(alloc, did, status, &out, kits.as_slice())
+        out,
+        did,
+    )
 }
 
 /// Adds the kit of these devices to the crew.
 fn add_kit(
-    alloc: Global,
     crew: &mut Memories,
     wire: MemWire,
+    shelf: MemShelf,
     clock: ListClock,
     luck: ListLuck,
-    shelf: MemShelf,
 ) -> Result<(), NoMemory> {
     crew.add(Kit {
         listener: 0,
@@ -112,11 +125,18 @@ fn add_kit(
     })
 }
 
-/// The words that serve the folder `site`.
-fn usual_words(alloc: Global) -> Result<Vec<String>, NoMemory> {
-    let mut words = Vec::new(alloc);
-    for word in ["radiusd", "-s", "-d", "site"] {
-        words.push(String::from_str(alloc, word)?)?;
-    }
-    Ok(words)
+/// Runs the server over these devices, and writes what it did.
+fn serve<R: Wait>(
+    rt: &R,
+    alloc: Global,
+    words: &[String],
+    files: &mut MemFiles,
+    crew: &mut Memories,
+    hub: &mut Hub<MemShelf>,
+    mut out: MemSink,
+    did: &mut Vec<u8>,
+) -> Result<(), NoMemory> {
+    let mut kits = Vec::new(alloc);
+    let status = radiusd(rt, alloc, words, files, crew, &mut kits, hub, &mut out);
+    push_run(alloc, did, status, &out, kits.as_slice())
 }

@@ -3,34 +3,66 @@
 use crate::plan::Plan;
 use rad_edge::Cue;
 use rad_outside::{NoMemory, Octets, Peer};
-use shared_cases::{Case, decimal, hexadecimal, numbers, words};
+use shared_cases::{Case, Field, decimal, hexadecimal, numbers, words};
 use std::alloc::Global;
 
-/// The runs of a case, in order. A field that is none is said in the answer's place, so that the case is wrong.
-pub fn plans_of(alloc: Global, case: &Case) -> Result<Result<Vec<Plan>, Vec<u8>>, NoMemory> {
-    let mut plans = Vec::new(alloc);
-    let mut plan = Plan::new(alloc)?;
-    for field in &case.fields {
-        let name = field.name.as_slice();
-        if name == b"run".as_slice() {
-            plans.push(plan)?;
-            plan = Plan::new(alloc)?;
-        } else if !take(alloc, &mut plan, name, field.text.as_slice())? {
-            let mut why = Vec::from_slice(alloc, b"no such field: ")?;
-            why.extend_from_slice(name)?;
-            return Ok(Err(why));
-        }
-    }
-    plans.push(plan)?;
-    Ok(Ok(plans))
+/// What a case says: its runs, in order, which share a hub and its session log.
+#[derive(Drop)]
+pub struct Script {
+    pub plans: Vec<Plan>,
+    /// Which appends to the session log fail, by their numbers, and how many octets are appended all the same.
+    pub failing_log: Vec<(u64, usize)>,
+    /// Whether each field is one that a case can have.
+    pub is_read: bool,
 }
 
-/// Takes a field, if it is one.
-fn take(alloc: Global, plan: &mut Plan, name: &[u8], text: &[u8]) -> Result<bool, NoMemory> {
+/// What a case says.
+pub fn script_of(alloc: Global, case: &Case) -> Result<Script, NoMemory> {
+    let mut script = Script {
+        plans: Vec::new(alloc),
+        failing_log: Vec::new(alloc),
+        is_read: true,
+    };
+    begin(alloc, &mut script)?;
+    for field in &case.fields {
+        take(alloc, &mut script, field)?;
+    }
+    Ok(script)
+}
+
+/// Begins the next run.
+fn begin(alloc: Global, script: &mut Script) -> Result<(), NoMemory> {
+    script.plans.push(Plan::new(alloc)?)?;
+    Ok(())
+}
+
+/// Takes a field.
+fn take(alloc: Global, script: &mut Script, field: &Field) -> Result<(), NoMemory> {
+    let text = field.text.as_slice();
+    match field.name.as_slice() {
+        b"run" => begin(alloc, script),
+        b"failing-log" => {
+            script.failing_log = cuts_of(alloc, text)?;
+            Ok(())
+        }
+        name => {
+            let Some(plan) = script.plans.last_mut() else {
+                return Ok(());
+            };
+            if !take_of_run(alloc, plan, name, text)? {
+                script.is_read = false;
+            }
+            Ok(())
+        }
+    }
+}
+
+/// Takes a field of a run, if it is one.
+fn take_of_run(alloc: Global, plan: &mut Plan, name: &[u8], text: &[u8]) -> Result<bool, NoMemory> {
     match name {
         [b'@', path @ ..] => take_file(alloc, plan, path, text)?,
         b"map" => plan.maps.push(Vec::new(alloc))?,
-        b"words" => plan.words = Some(texts_of(alloc, text)?),
+        b"words" => plan.words = texts_of(alloc, text)?,
         b"from" => plan.from = peer_of(text),
         b"datagram" => {
             let octets = Octets::from_vec(hexadecimal(alloc, text)?);
@@ -39,7 +71,6 @@ fn take(alloc: Global, plan: &mut Plan, name: &[u8], text: &[u8]) -> Result<bool
         b"quiet" => plan.script.push(Cue::Quiet)?,
         b"no-kit" => plan.has_kit = false,
         b"failing-appends" => plan.failing_appends = cuts_of(alloc, text)?,
-        b"failing-log" => plan.failing_log = cuts_of(alloc, text)?,
         b"gives" => {}
         _ => return take_numbers(alloc, plan, name, text),
     }
@@ -81,12 +112,19 @@ fn cuts_of(alloc: Global, text: &[u8]) -> Result<Vec<(u64, usize)>, NoMemory> {
 
 /// Adds a file of the folder `site` to the last map.
 fn take_file(alloc: Global, plan: &mut Plan, path: &[u8], text: &[u8]) -> Result<(), NoMemory> {
-    let mut whole = Vec::from_slice(alloc, b"site/")?;
-    whole.extend_from_slice(path)?;
+    let path = path_of(alloc, path)?;
+    let text = Octets::of(alloc, text)?;
     if let Some(map) = plan.maps.last_mut() {
-        map.push((Octets::from_vec(whole), Octets::of(alloc, text)?))?;
+        map.push((path, text))?;
     }
     Ok(())
+}
+
+/// The path of a file of the folder `site`.
+fn path_of(alloc: Global, path: &[u8]) -> Result<Octets, NoMemory> {
+    let mut whole = Vec::from_slice(alloc, b"site/")?;
+    whole.extend_from_slice(path)?;
+    Ok(Octets::from_vec(whole))
 }
 
 /// The words of a text. Octets that are no UTF-8 are replaced.

@@ -1,19 +1,16 @@
 //! The server over real UDP, on one thread.
 
-ghost use Rattle.std.specs.Prelude.{◌≡◌, ◌++◌, ◌∷◌, [], None, Err, IfOk, IfSome, IsSome, IsErr, length, ◌↔◌, if◌then◌else◌, true};
-ghost use Rattle.rad_outside.specs.Telling.{Tells, Counts};
-ghost use Rattle.rad_outside.specs.Wire.{heard_of, FitsBuffer, failures_after, IsEnding};
+ghost use Rattle.std.specs.Prelude.{None};
 
-use crate::run::{files_of, hub_of, words_of};
-use rad_edge::{ListClock, ListLuck, MemShelf, MemSink, OpenGate, UdpWire};
-use rad_outside::{Crew, Failed, Got, Kit, KitFault, Listen, Peer, Wire};
-use radiusd::radiusd;
+use rad_edge::{ListClock, ListLuck, MemCrew, MemFiles, MemShelf, MemSink, OpenGate, UdpWire};
+use rad_outside::{Failed, Got, Kit, NoMemory, Octets, Peer, Wire};
+use radiusd::{Hub, radiusd};
 use std::alloc::Global;
 use std::net::UdpSocket;
 use std::test::Fail;
 use std::time::Duration;
 
-/// A wire that has ended after its first quiet.
+/// A wire that has ended after its first quiet while.
 #[derive(Drop)]
 struct UntilQuiet {
     wire: UdpWire,
@@ -65,49 +62,64 @@ impl Wire for UntilQuiet {
     }
 }
 
-/// A crew that has one wire to hand out.
-#[derive(Drop)]
-struct OneWire {
-    wire: Option<UdpWire>,
+type OneWire = MemCrew<UntilQuiet, MemShelf, ListClock, ListLuck, OpenGate>;
+
+/// A crew that has one wire to hand out, until that wire is quiet.
+fn crew_of(alloc: Global, wire: UdpWire) -> Result<OneWire, NoMemory> {
+    let mut crew = MemCrew::new(alloc, Vec::new(alloc));
+    crew.add(Kit {
+        listener: 0,
+        wire: UntilQuiet {
+            wire,
+            is_over: false,
+            faults: 0,
+            failures_in_a_row: 0,
+        },
+        control: None,
+        shelf: MemShelf::new(alloc, Vec::new(alloc)),
+        clock: ListClock::new(Vec::new(alloc)),
+        luck: ListLuck::new(Vec::new(alloc)),
+        gate: OpenGate,
+    })?;
+    Ok(crew)
 }
 
-impl Crew<UntilQuiet, MemShelf, ListClock, ListLuck, OpenGate> for OneWire {
-    ghost told = { λ _. None };
-
-    ghost faults = { λ _. 0 };
-
-    fn kit(
-        &mut self,
-        alloc: Global,
-        _worker: u32,
-        _listen: &Listen,
-        control: Option<&Listen>,
-    ) -> Result<Kit<UntilQuiet, MemShelf, ListClock, ListLuck, OpenGate>, KitFault> {
-        if control.is_some() {
-            return Err(KitFault::NoMemory);
-        }
-        let Some(wire) = self.wire.take() else {
-            return Err(KitFault::NoMemory);
-        };
-        Ok(Kit {
-            listener: 0,
-            wire: UntilQuiet {
-                wire,
-                is_over: false,
-                faults: 0,
-                failures_in_a_row: 0,
-            },
-            control: None,
-            shelf: MemShelf::new(alloc, Vec::new(alloc)),
-            clock: ListClock::new(Vec::new(alloc)),
-            luck: ListLuck::new(Vec::new(alloc)),
-            gate: OpenGate,
-        })
+/// The words of a command line.
+fn words_of(alloc: Global, words: &[&str]) -> Result<Vec<String>, NoMemory> {
+    let mut list = Vec::new(alloc);
+    for word in words {
+        list.push(String::from_str(alloc, word)?)?;
     }
+    Ok(list)
 }
 
+/// A site that accepts each request of 127.0.0.1.
 const SITE: &[u8] =
     b"client nas {\n\tipaddr = 127.0.0.1\n\tsecret = xyzzy5461\n}\nserver default {\n\tlisten { type = auth }\n\tauthorize {\n\t\tupdate control { Auth-Type := Accept }\n\t\tok\n\t}\n}\n";
+
+/// Files with this text as the configuration of the folder `site`.
+fn files_of(alloc: Global, conf: &[u8]) -> Result<MemFiles, NoMemory> {
+    let path = Octets::of(alloc, b"site/radiusd.conf")?;
+    let mut map = Vec::new(alloc);
+    map.push((path, Octets::of(alloc, conf)?))?;
+    let mut maps = Vec::new(alloc);
+    maps.push(map)?;
+    Ok(MemFiles::new(maps, Vec::new(alloc)))
+}
+
+/// The request of RFC 2865 section 7.1.
+const REQUEST: &[u8] = &[
+    0x01, 0x00, 0x00, 0x38, 0x0f, 0x40, 0x3f, 0x94, 0x73, 0x97, 0x80, 0x57, 0xbd, 0x83, 0xd5, 0xcb,
+    0x98, 0xf4, 0x22, 0x7a, 0x01, 0x06, 0x6e, 0x65, 0x6d, 0x6f, 0x02, 0x12, 0x0d, 0xbe, 0x70, 0x8d,
+    0x93, 0xd4, 0x13, 0xce, 0x31, 0x96, 0xe4, 0x3f, 0x78, 0x2a, 0x0a, 0xee, 0x04, 0x06, 0xc0, 0xa8,
+    0x01, 0x10, 0x05, 0x06, 0x00, 0x00, 0x00, 0x03,
+];
+
+/// An empty Access-Accept to it, signed by Python's hashlib under the secret `xyzzy5461`.
+const ACCEPT: &[u8] = &[
+    0x02, 0x00, 0x00, 0x14, 0x9e, 0xf2, 0xe9, 0x7b, 0x4e, 0x94, 0x75, 0x5c, 0x8f, 0x16, 0xb6, 0x39,
+    0x4f, 0x6e, 0x05, 0x95,
+];
 
 #[test]
 fn a_request_over_udp_is_answered(rt: HostRuntime) -> Result<(), Fail> {
@@ -121,11 +133,12 @@ fn a_request_over_udp_is_answered(rt: HostRuntime) -> Result<(), Fail> {
     let client = UdpSocket::bind(&rt, "127.0.0.1:0")?;
     client.set_read_timeout(Some(Duration::from_secs(5)))?;
     let server = format!(in alloc; "127.0.0.1:{port}")?;
-    client.send_to(crate::serving::REQUEST, server.as_str())?;
+    client.send_to(REQUEST, server.as_str())?;
     let words = words_of(alloc, &["radiusd", "-s", "-d", "site"])?;
     let mut files = files_of(alloc, SITE)?;
-    let mut crew = OneWire { wire: Some(wire) };
-    let mut hub = hub_of(alloc)?;
+    let mut crew = crew_of(alloc, wire)?;
+    let path = Octets::of(alloc, "radutmp.log".as_bytes())?;
+    let mut hub = Hub::new(alloc, MemShelf::new(alloc, Vec::new(alloc)), path)?;
     let mut kits = Vec::new(alloc);
     let mut out = MemSink::new(alloc, Vec::new(alloc));
     let status = radiusd(
@@ -141,6 +154,6 @@ fn a_request_over_udp_is_answered(rt: HostRuntime) -> Result<(), Fail> {
     assert_eq!(rt; status, 0);
     let mut buffer = [0u8; 4096];
     let (count, _) = client.recv_from(&mut buffer)?;
-    assert_eq!(rt; buffer.get(..count), Some(crate::serving::ACCEPT));
+    assert_eq!(rt; buffer.get(..count), Some(ACCEPT));
     Ok(())
 }

@@ -1,0 +1,68 @@
+//! Pairs and values are printed, and pairs that were printed are read back.
+
+use crate::notation::{NoAnswer, answered, attr_of, value_of};
+use crate::reading::shown;
+use rad_dict::Dict;
+use rad_outside::NoMemory;
+use rad_pairs::{print_pair, print_value, read_pairs};
+use rad_value::Pair;
+use shared_cases::{Case, Subject};
+use std::alloc::Global;
+
+/// `pair` or `value`, an attribute and a value of it give the text of the pair or of its value; `back` gives the
+/// pair that is read from the text of the pair.
+#[derive(Drop)]
+pub struct PrintedTexts {
+    dict: Dict,
+}
+
+impl PrintedTexts {
+    /// Pairs are printed by the dictionary's base.
+    pub fn of_base(alloc: Global) -> Result<PrintedTexts, NoMemory> {
+        Ok(PrintedTexts {
+            dict: Dict::base(alloc)?,
+        })
+    }
+}
+
+impl Subject for PrintedTexts {
+    fn answer(&mut self, alloc: Global, case: &Case) -> Result<Vec<u8>, NoMemory> {
+        answered(alloc, printed(alloc, &self.dict, case))
+    }
+}
+
+fn printed(alloc: Global, dict: &Dict, case: &Case) -> Result<Vec<u8>, NoAnswer> {
+    let call = call_of(case.cell(0))?;
+    let pair = Pair {
+        attr: attr_of(case.cell(1))?,
+        value: value_of(alloc, case.cell(2))?,
+    };
+    Ok(match call {
+        Call::Value => print_value(alloc, pair.attr, &pair.value, dict)?.into_vec(),
+        Call::Pair => print_pair(alloc, &pair, dict)?.into_vec(),
+        Call::Back => read_back(alloc, &pair, dict)?,
+    })
+}
+
+/// What is tried.
+#[derive(Drop)]
+enum Call {
+    Value,
+    Pair,
+    Back,
+}
+
+fn call_of(name: &[u8]) -> Result<Call, NoAnswer> {
+    match name {
+        b"value" => Ok(Call::Value),
+        b"pair" => Ok(Call::Pair),
+        b"back" => Ok(Call::Back),
+        _ => Err(NoAnswer::Misspelt),
+    }
+}
+
+/// Prints a pair, and shows what is read from that.
+fn read_back(alloc: Global, pair: &Pair, dict: &Dict) -> Result<Vec<u8>, NoMemory> {
+    let text = print_pair(alloc, pair, dict)?;
+    shown(alloc, read_pairs(alloc, text.as_slice(), dict))
+}
