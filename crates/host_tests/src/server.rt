@@ -121,37 +121,68 @@ const ACCEPT: &[u8] = &[
     0x4f, 0x6e, 0x05, 0x95,
 ];
 
+/// The server's exit status over this wire, on the site `SITE`.
+fn served<R: Wait>(rt: &R, alloc: Global, wire: UdpWire) -> Result<u8, NoMemory> {
+    let mut crew = crew_of(alloc, wire)?;
+    served_by(rt, alloc, &mut crew)
+}
+
+fn served_by<R: Wait>(rt: &R, alloc: Global, crew: &mut OneWire) -> Result<u8, NoMemory> {
+    let words = words_of(alloc, &["radiusd", "-s", "-d", "site"])?;
+    with_files(rt, alloc, words.as_slice(), crew)
+}
+
+fn with_files<R: Wait>(
+    rt: &R,
+    alloc: Global,
+    words: &[String],
+    crew: &mut OneWire,
+) -> Result<u8, NoMemory> {
+    let mut files = files_of(alloc, SITE)?;
+    with_hub(rt, alloc, words, &mut files, crew)
+}
+
+fn with_hub<R: Wait>(
+    rt: &R,
+    alloc: Global,
+    words: &[String],
+    files: &mut MemFiles,
+    crew: &mut OneWire,
+) -> Result<u8, NoMemory> {
+    let path = Octets::of(alloc, "radutmp.log".as_bytes())?;
+    let mut hub = Hub::new(alloc, MemShelf::new(alloc, Vec::new(alloc)), path)?;
+    let mut kits = Vec::new(alloc);
+    let mut out = MemSink::new(alloc, Vec::new(alloc));
+    Ok(radiusd(
+        rt,
+        alloc,
+        words,
+        files,
+        crew,
+        &mut kits,
+        &mut hub,
+        &mut out,
+    ))
+}
+
+/// A socket of a client that has sent the request to a port of this machine.
+fn asking<R: Net + Alloc<A = Global>>(rt: &R, port: u16) -> Result<UdpSocket, Fail> {
+    let client = UdpSocket::bind(rt, "127.0.0.1:0")?;
+    client.set_read_timeout(Some(Duration::from_secs(5)))?;
+    let server = format!(in rt.alloc(); "127.0.0.1:{port}")?;
+    client.send_to(REQUEST, server.as_str())?;
+    Ok(client)
+}
+
 #[test]
 fn a_request_over_udp_is_answered(rt: HostRuntime) -> Result<(), Fail> {
-    let alloc: Global = rt.alloc();
     let at = Peer {
         addr: 0x7f00_0001,
         port: 0,
     };
     let wire = UdpWire::bind(&rt, at)?;
-    let port = wire.port()?;
-    let client = UdpSocket::bind(&rt, "127.0.0.1:0")?;
-    client.set_read_timeout(Some(Duration::from_secs(5)))?;
-    let server = format!(in alloc; "127.0.0.1:{port}")?;
-    client.send_to(REQUEST, server.as_str())?;
-    let words = words_of(alloc, &["radiusd", "-s", "-d", "site"])?;
-    let mut files = files_of(alloc, SITE)?;
-    let mut crew = crew_of(alloc, wire)?;
-    let path = Octets::of(alloc, "radutmp.log".as_bytes())?;
-    let mut hub = Hub::new(alloc, MemShelf::new(alloc, Vec::new(alloc)), path)?;
-    let mut kits = Vec::new(alloc);
-    let mut out = MemSink::new(alloc, Vec::new(alloc));
-    let status = radiusd(
-        &rt,
-        alloc,
-        words.as_slice(),
-        &mut files,
-        &mut crew,
-        &mut kits,
-        &mut hub,
-        &mut out,
-    );
-    assert_eq!(rt; status, 0);
+    let client = asking(&rt, wire.port()?)?;
+    assert_eq!(rt; served(&rt, rt.alloc(), wire)?, 0);
     let mut buffer = [0u8; 4096];
     let (count, _) = client.recv_from(&mut buffer)?;
     assert_eq!(rt; buffer.get(..count), Some(ACCEPT));
