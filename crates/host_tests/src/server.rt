@@ -6,7 +6,8 @@ use rad_edge::{ListClock, ListLuck, MemCrew, MemFiles, MemShelf, MemSink, OpenGa
 use rad_outside::{Failed, Got, Kit, NoMemory, Octets, Peer, Wire};
 use radiusd::{Hub, radiusd};
 use std::alloc::Global;
-use std::net::UdpSocket;
+use std::net::{Net, UdpSocket};
+use std::sync::Wait;
 use std::test::Fail;
 use std::time::Duration;
 
@@ -153,16 +154,7 @@ fn with_hub<R: Wait>(
     let mut hub = Hub::new(alloc, MemShelf::new(alloc, Vec::new(alloc)), path)?;
     let mut kits = Vec::new(alloc);
     let mut out = MemSink::new(alloc, Vec::new(alloc));
-    Ok(radiusd(
-        rt,
-        alloc,
-        words,
-        files,
-        crew,
-        &mut kits,
-        &mut hub,
-        &mut out,
-    ))
+    Ok(radiusd(rt, alloc, words, files, crew, &mut kits, &mut hub, &mut out))
 }
 
 /// A socket of a client that has sent the request to a port of this machine.
