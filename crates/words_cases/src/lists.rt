@@ -1,6 +1,8 @@
 //! Lists of pairs are edited and read.
 
-use crate::notation::{NoAnswer, answered, attr_of, number_of, pair_of, push_pair, push_value};
+use crate::notation::{
+    NoAnswer, answered, attr_of, meaning_of, number_of, pair_of, push_pair, push_value,
+};
 use rad_outside::NoMemory;
 use rad_value::{Edit, EditFault, EditOp, ListName, Lists, Pair};
 use rad_words::AttrId;
@@ -8,6 +10,18 @@ use shared_cases::{Case, Subject, push_number, words};
 use std::alloc::Global;
 
 const LISTS: [ListName; 3] = [ListName::Request, ListName::Reply, ListName::Control];
+
+const LIST_NAMES: [(&[u8], ListName); 3] = [
+    (b"request", ListName::Request),
+    (b"reply", ListName::Reply),
+    (b"control", ListName::Control),
+];
+
+const OPERATORS: [(&[u8], EditOp); 3] = [
+    (b"=", EditOp::AddIfNone),
+    (b":=", EditOp::Set),
+    (b"+=", EditOp::Append),
+];
 
 /// What every list but the one that is edited has.
 const OTHERS: &[u8] = b"s26=n0 s1=n0";
@@ -23,7 +37,7 @@ impl Subject for Edits {
 }
 
 fn edited(alloc: Global, case: &Case) -> Result<Vec<u8>, NoAnswer> {
-    let list = list_of(case.cell(0))?;
+    let list = meaning_of(&LIST_NAMES, case.cell(0))?;
     let edit = edit_of(alloc, list, &[case.cell(2), case.cell(3)])?;
     let mut lists = Lists::new(alloc);
     for list in LISTS {
@@ -43,21 +57,12 @@ fn edited(alloc: Global, case: &Case) -> Result<Vec<u8>, NoAnswer> {
     Ok(text)
 }
 
-fn list_of(name: &[u8]) -> Result<ListName, NoAnswer> {
-    match name {
-        b"request" => Ok(ListName::Request),
-        b"reply" => Ok(ListName::Reply),
-        b"control" => Ok(ListName::Control),
-        _ => Err(NoAnswer::Misspelt),
-    }
-}
-
 /// The edit of an operator and a pair.
 fn edit_of(alloc: Global, list: ListName, given: &[&[u8]]) -> Result<Edit, NoAnswer> {
     let [sign, pair] = given else {
         return Err(NoAnswer::Misspelt);
     };
-    let op = op_of(sign)?;
+    let op = meaning_of(&OPERATORS, sign)?;
     let Pair { attr, value } = pair_of(alloc, pair)?;
     Ok(Edit {
         list,
@@ -65,15 +70,6 @@ fn edit_of(alloc: Global, list: ListName, given: &[&[u8]]) -> Result<Edit, NoAns
         op,
         value,
     })
-}
-
-fn op_of(sign: &[u8]) -> Result<EditOp, NoAnswer> {
-    match sign {
-        b"=" => Ok(EditOp::AddIfNone),
-        b":=" => Ok(EditOp::Set),
-        b"+=" => Ok(EditOp::Append),
-        _ => Err(NoAnswer::Misspelt),
-    }
 }
 
 /// Adds pairs to a list of fewer than 1000.
@@ -136,14 +132,13 @@ fn stepped(alloc: Global, case: &Case) -> Result<Vec<u8>, NoAnswer> {
     let mut text = Vec::new(alloc);
     for field in &case.fields {
         let given = words(alloc, field.text.as_slice())?;
-        match field.name.as_slice() {
-            b"gives" => {}
-            b"put" => put_times(alloc, &mut lists, given.as_slice())?,
-            name => {
-                let step = step_of(name)?;
-                take_step(alloc, &mut text, &mut lists, step, given.as_slice())?;
-                text.push(b'\n')?;
-            }
+        let name = field.name.as_slice();
+        if name == b"put".as_slice() {
+            put_times(alloc, &mut lists, given.as_slice())?;
+        } else if name != b"gives".as_slice() {
+            let step = meaning_of(&STEPS, name)?;
+            take_step(alloc, &mut text, &mut lists, step, given.as_slice())?;
+            text.push(b'\n')?;
         }
     }
     Ok(text)
@@ -154,7 +149,7 @@ fn put_times(alloc: Global, lists: &mut Lists, given: &[&[u8]]) -> Result<(), No
     let [list, times, pairs @ ..] = given else {
         return Err(NoAnswer::Misspelt);
     };
-    let list = list_of(list)?;
+    let list = meaning_of(&LIST_NAMES, list)?;
     for _ in 0..number_of(times) {
         put(alloc, lists, list, pairs)?;
     }
@@ -162,7 +157,7 @@ fn put_times(alloc: Global, lists: &mut Lists, given: &[&[u8]]) -> Result<(), No
 }
 
 /// A step that answers.
-#[derive(Drop)]
+#[derive(Clone, Copy)]
 enum Step {
     Update,
     Try,
@@ -172,17 +167,14 @@ enum Step {
     Text,
 }
 
-fn step_of(name: &[u8]) -> Result<Step, NoAnswer> {
-    match name {
-        b"update" => Ok(Step::Update),
-        b"try" => Ok(Step::Try),
-        b"length" => Ok(Step::Length),
-        b"values" => Ok(Step::Values),
-        b"pair" => Ok(Step::Pair),
-        b"text" => Ok(Step::Text),
-        _ => Err(NoAnswer::Misspelt),
-    }
-}
+const STEPS: [(&[u8], Step); 6] = [
+    (b"update", Step::Update),
+    (b"try", Step::Try),
+    (b"length", Step::Length),
+    (b"values", Step::Values),
+    (b"pair", Step::Pair),
+    (b"text", Step::Text),
+];
 
 /// Takes a step that answers, and writes what it answers.
 fn take_step(
@@ -195,7 +187,7 @@ fn take_step(
     let [list, given @ ..] = given else {
         return Err(NoAnswer::Misspelt);
     };
-    let list = list_of(list)?;
+    let list = meaning_of(&LIST_NAMES, list)?;
     match step {
         Step::Update => push_updated(alloc, to, lists, &edit_of(alloc, list, given)?),
         Step::Try => push_tried(to, lists, &edit_of(alloc, list, given)?),

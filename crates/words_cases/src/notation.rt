@@ -44,6 +44,16 @@ pub fn answered(alloc: Global, answer: Result<Vec<u8>, NoAnswer>) -> Result<Vec<
     }
 }
 
+/// What a word stands for in a table of words.
+pub fn meaning_of<T: Copy>(table: &[(&[u8], T)], word: &[u8]) -> Result<T, NoAnswer> {
+    for (known, meaning) in table {
+        if *known == word {
+            return Ok(*meaning);
+        }
+    }
+    Err(NoAnswer::Misspelt)
+}
+
 /// The number of decimal digits, or the greatest where it is greater than that.
 pub fn number_of(digits: &[u8]) -> u32 {
     u32::try_from(decimal(digits)).unwrap_or(u32::MAX)

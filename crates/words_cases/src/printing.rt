@@ -1,6 +1,6 @@
 //! Pairs and values are printed, and pairs that were printed are read back.
 
-use crate::notation::{NoAnswer, answered, attr_of, value_of};
+use crate::notation::{NoAnswer, answered, attr_of, meaning_of, value_of};
 use crate::reading::shown;
 use rad_dict::Dict;
 use rad_outside::NoMemory;
@@ -32,7 +32,7 @@ impl Subject for PrintedTexts {
 }
 
 fn printed(alloc: Global, dict: &Dict, case: &Case) -> Result<Vec<u8>, NoAnswer> {
-    let call = call_of(case.cell(0))?;
+    let call = meaning_of(&CALLS, case.cell(0))?;
     let pair = Pair {
         attr: attr_of(case.cell(1))?,
         value: value_of(alloc, case.cell(2))?,
@@ -45,21 +45,18 @@ fn printed(alloc: Global, dict: &Dict, case: &Case) -> Result<Vec<u8>, NoAnswer>
 }
 
 /// What is tried.
-#[derive(Drop)]
+#[derive(Clone, Copy)]
 enum Call {
     Value,
     Pair,
     Back,
 }
 
-fn call_of(name: &[u8]) -> Result<Call, NoAnswer> {
-    match name {
-        b"value" => Ok(Call::Value),
-        b"pair" => Ok(Call::Pair),
-        b"back" => Ok(Call::Back),
-        _ => Err(NoAnswer::Misspelt),
-    }
-}
+const CALLS: [(&[u8], Call); 3] = [
+    (b"value", Call::Value),
+    (b"pair", Call::Pair),
+    (b"back", Call::Back),
+];
 
 /// Prints a pair, and shows what is read from that.
 fn read_back(alloc: Global, pair: &Pair, dict: &Dict) -> Result<Vec<u8>, NoMemory> {

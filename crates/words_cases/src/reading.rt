@@ -1,6 +1,6 @@
 //! Texts of pairs and of values are read.
 
-use crate::notation::{NoAnswer, answered, push_attr, push_value};
+use crate::notation::{NoAnswer, answered, meaning_of, push_attr, push_value};
 use rad_dict::{AttrDef, Dict};
 use rad_outside::{NoMemory, Octets};
 use rad_pairs::{Item, ItemList, PairFault, PairOp, Spot, ValueFault, read_pairs, read_value};
@@ -83,6 +83,16 @@ fn spelling(op: PairOp) -> &'static str {
     }
 }
 
+const KINDS: [(&[u8], Kind); 7] = [
+    (b"text", Kind::Text),
+    (b"octets", Kind::Octets),
+    (b"address", Kind::Addr),
+    (b"number", Kind::Number),
+    (b"date", Kind::Date),
+    (b"byte", Kind::Byte),
+    (b"short", Kind::Short),
+];
+
 /// A kind and a text give the value that the text means for Service-Type, were it of that kind.
 #[derive(Drop)]
 pub struct ValueTexts {
@@ -110,7 +120,7 @@ fn meant(alloc: Global, dict: &Dict, kind: &[u8], text: &[u8]) -> Result<Vec<u8>
             space: Space::Standard,
             number: 6,
         },
-        kind: kind_of(kind)?,
+        kind: meaning_of(&KINDS, kind)?,
         name: Octets::of(alloc, b"Service-Type")?,
     };
     let mut shown = Vec::new(alloc);
@@ -120,17 +130,4 @@ fn meant(alloc: Global, dict: &Dict, kind: &[u8], text: &[u8]) -> Result<Vec<u8>
         Err(ValueFault::NoMemory) => return Err(NoAnswer::NoMemory),
     }
     Ok(shown)
-}
-
-fn kind_of(name: &[u8]) -> Result<Kind, NoAnswer> {
-    match name {
-        b"text" => Ok(Kind::Text),
-        b"octets" => Ok(Kind::Octets),
-        b"address" => Ok(Kind::Addr),
-        b"number" => Ok(Kind::Number),
-        b"date" => Ok(Kind::Date),
-        b"byte" => Ok(Kind::Byte),
-        b"short" => Ok(Kind::Short),
-        _ => Err(NoAnswer::Misspelt),
-    }
 }

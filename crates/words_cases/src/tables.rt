@@ -1,6 +1,6 @@
 //! The default actions of groups, and a table of names and numbers.
 
-use crate::notation::{NoAnswer, answered, number_of};
+use crate::notation::{NoAnswer, answered, meaning_of, number_of};
 use rad_outside::NoMemory;
 use rad_tables::{Action, GroupKind, default_actions, names};
 use rad_words::{Code, Names, Section};
@@ -20,6 +20,20 @@ const CODES: [Code; 9] = [
     Code::Updated,
 ];
 
+const SECTIONS: [(&[u8], Section); 6] = [
+    (b"authorize", Section::Authorize),
+    (b"authenticate", Section::Authenticate),
+    (b"session", Section::Session),
+    (b"preacct", Section::Preacct),
+    (b"accounting", Section::Accounting),
+    (b"post-auth", Section::PostAuth),
+];
+
+const KINDS: [(&[u8], GroupKind); 2] = [
+    (b"plain", GroupKind::Plain),
+    (b"redundant", GroupKind::Redundant),
+];
+
 /// A section and a kind of group give the nine default actions.
 #[derive(Drop)]
 pub struct Columns;
@@ -31,7 +45,7 @@ impl Subject for Columns {
 }
 
 fn column(alloc: Global, section: &[u8], kind: &[u8]) -> Result<Vec<u8>, NoAnswer> {
-    let actions = default_actions(section_of(section)?, kind_of(kind)?);
+    let actions = default_actions(meaning_of(&SECTIONS, section)?, meaning_of(&KINDS, kind)?);
     let mut signs = Vec::new(alloc);
     for code in CODES {
         push_action(alloc, &mut signs, actions.at(code))?;
@@ -46,26 +60,6 @@ fn push_action(alloc: Global, to: &mut Vec<u8>, action: Action) -> Result<(), No
         Action::Priority(priority) => push_number(alloc, to, u64::from(priority))?,
     }
     Ok(())
-}
-
-fn section_of(name: &[u8]) -> Result<Section, NoAnswer> {
-    match name {
-        b"authorize" => Ok(Section::Authorize),
-        b"authenticate" => Ok(Section::Authenticate),
-        b"session" => Ok(Section::Session),
-        b"preacct" => Ok(Section::Preacct),
-        b"accounting" => Ok(Section::Accounting),
-        b"post-auth" => Ok(Section::PostAuth),
-        _ => Err(NoAnswer::Misspelt),
-    }
-}
-
-fn kind_of(name: &[u8]) -> Result<GroupKind, NoAnswer> {
-    match name {
-        b"plain" => Ok(GroupKind::Plain),
-        b"redundant" => Ok(GroupKind::Redundant),
-        _ => Err(NoAnswer::Misspelt),
-    }
 }
 
 /// The table in which cases look names and numbers up.
@@ -83,18 +77,26 @@ impl Subject for NamesAndNumbers {
     }
 }
 
-fn looked_up(alloc: Global, what: &[u8], key: &[u8]) -> Result<Vec<u8>, NoAnswer> {
+/// What is looked up.
+#[derive(Clone, Copy)]
+enum Sought {
+    Number,
+    Name,
+}
+
+const SOUGHT: [(&[u8], Sought); 2] = [(b"number", Sought::Number), (b"name", Sought::Name)];
+
+fn looked_up(alloc: Global, sought: &[u8], key: &[u8]) -> Result<Vec<u8>, NoAnswer> {
     let mut found = Vec::new(alloc);
-    match what {
-        b"number" => match pods().number(key) {
+    match meaning_of(&SOUGHT, sought)? {
+        Sought::Number => match pods().number(key) {
             Some(number) => push_number(alloc, &mut found, u64::from(number))?,
             None => found.extend_from_slice(b"none")?,
         },
-        b"name" => match pods().name(number_of(key)) {
+        Sought::Name => match pods().name(number_of(key)) {
             Some(name) => found.extend_from_slice(name)?,
             None => found.extend_from_slice(b"none")?,
         },
-        _ => return Err(NoAnswer::Misspelt),
     }
     Ok(found)
 }
