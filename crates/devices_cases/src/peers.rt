@@ -11,15 +11,21 @@ pub fn peer_of(text: &[u8]) -> Peer {
     let (first, rest) = parted(address, b'.');
     let (second, rest) = parted(rest, b'.');
     let (third, fourth) = parted(rest, b'.');
+    let octets = [
+        octet_of(first),
+        octet_of(second),
+        octet_of(third),
+        octet_of(fourth),
+    ];
     Peer {
-        addr: u32::from_be_bytes([first, second, third, fourth].map(octet_of)),
+        addr: u32::from_be_bytes(octets),
         port: (decimal(port) % 65_536) as u16,
     }
 }
 
 /// The octet that the decimal digits of a text say.
 fn octet_of(text: &[u8]) -> u8 {
-    (decimal(text) % 256) as u8
+    decimal(text).to_le_bytes()[0]
 }
 
 /// The text of an address and port.
