@@ -2,8 +2,8 @@
 
 use crate::notation::{NoAnswer, answered, meaning_of, number_of};
 use rad_outside::NoMemory;
-use rad_tables::{Action, GroupKind, default_actions, names};
-use rad_words::{Code, Names, Section};
+use rad_tables::{Action, GroupKind, default_actions};
+use rad_words::{Code, Names, Section, names};
 use shared_cases::{Case, Subject, push_number};
 use std::alloc::Global;
 
