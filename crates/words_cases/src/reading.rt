@@ -59,27 +59,27 @@ fn push_fault(alloc: Global, to: &mut Vec<u8>, name: &[u8], at: Spot) -> Result<
 /// Writes an item as `ATTRIBUTE OPERATOR VALUE;`.
 fn push_item(alloc: Global, to: &mut Vec<u8>, item: &Item) -> Result<(), NoMemory> {
     push_attr(alloc, to, item.attr)?;
-    to.extend_from_slice(spelling(item.op).as_bytes())?;
+    to.extend_from_slice(spelling(item.op))?;
     push_value(alloc, to, &item.value)?;
     to.push(b';')?;
     Ok(())
 }
 
-fn spelling(op: PairOp) -> &'static str {
+fn spelling(op: PairOp) -> &'static [u8] {
     match op {
-        PairOp::Eq => " = ",
-        PairOp::Set => " := ",
-        PairOp::Append => " += ",
-        PairOp::Equal => " == ",
-        PairOp::Differs => " != ",
-        PairOp::Lt => " < ",
-        PairOp::Le => " <= ",
-        PairOp::Gt => " > ",
-        PairOp::Ge => " >= ",
-        PairOp::Match => " =~ ",
-        PairOp::NoMatch => " !~ ",
-        PairOp::Any => " =* ",
-        PairOp::None => " !* ",
+        PairOp::Eq => b" = ",
+        PairOp::Set => b" := ",
+        PairOp::Append => b" += ",
+        PairOp::Equal => b" == ",
+        PairOp::Differs => b" != ",
+        PairOp::Lt => b" < ",
+        PairOp::Le => b" <= ",
+        PairOp::Gt => b" > ",
+        PairOp::Ge => b" >= ",
+        PairOp::Match => b" =~ ",
+        PairOp::NoMatch => b" !~ ",
+        PairOp::Any => b" =* ",
+        PairOp::None => b" !* ",
     }
 }
 
