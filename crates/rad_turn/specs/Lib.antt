@@ -1,0 +1,5 @@
+pub mod Names
+pub mod Seats
+pub mod Views
+pub mod Kept
+pub mod Told

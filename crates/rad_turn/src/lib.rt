@@ -1,0 +1,15 @@
+//! A desk: a lock over one value whose turns stand in one history.
+#![tactic(auto)]
+
+mod desk;
+mod fault;
+mod law;
+mod seat;
+mod stands;
+mod view;
+
+pub use desk::Desk;
+pub use fault::{CloseFault, Worn};
+pub use seat::Seat;
+pub use stands::{Move, Stands};
+pub use view::View;
