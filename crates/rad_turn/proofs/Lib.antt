@@ -1,3 +1,4 @@
 pub mod Lists
 pub mod Sitting
 pub mod Turning
+pub mod Having

@@ -3,3 +3,5 @@ pub mod Seats
 pub mod Views
 pub mod Kept
 pub mod Told
+pub mod Turned
+pub mod Sides

@@ -5,7 +5,9 @@ ghost use Rattle.rad_turn.specs.Views.{Stood};
 ghost use Rattle.rad_turn.specs.Told.{Ends, Holds, Carries, Changes, Releases, gave_as};
 ghost use Rattle.rad_turn.specs.declared.view.View.{View};
 
+use crate::fault::Worn;
 use crate::law::{Give, Law, Look, Makes, Take};
+use crate::seat::Seat;
 use crate::stands::{Move, Stands};
 use crate::view::Known;
 use atomic_table::{Seat as Place, Table};
@@ -13,6 +15,9 @@ use std::alloc::Global;
 use std::marker::Brand;
 use std::snapshot::Snapshot;
 use std::sync::Wait;
+
+/// How many turns a desk has.
+const TURNS: u64 = 1 << 62;
 
 /// What the word shows where all turns were taken, which is twice their number.
 const WORN: u64 = 1 << 63;
@@ -85,6 +90,42 @@ impl<S: Stands> Desk<S> {
     {
         self.table.shared.fetch_add::<Give<J>>(place, 0, 1);
         self.table.shared.wake_one(0);
+    }
+}
+
+impl<S: Stands> Desk<S> {
+    ghost use Rattle.std.specs.Prelude.{◌≡◌, IfOk, IfErr, Err};
+    ghost use Rattle.rad_turn.specs.Views.{IsSameSeat};
+    ghost use Rattle.rad_turn.specs.Turned.{MayFollow, Turned, Ended};
+    ghost use Rattle.rad_turn.specs.Sides.{view, IsOf};
+
+    /// Waits for the desk, and applies the step to its value. Where 2^62 turns were taken it doesn't.
+    pub fn turn<R: Wait, M: Move<S>>(
+        &self,
+        rt: &R,
+        seat: &mut Seat<S>,
+        step: &mut M,
+    ) -> Result<M::Reply, Worn>
+        requires own { IsOf self.now seat.old }
+        requires worker { M.worker step.old ≡ (view seat.old).name }
+        requires may { MayFollow S.stands S.origin S.by (view seat.old) (M.may step.old) }
+        ensures own { IsOf self.now seat.new }
+        ensures same { IsSameSeat (view seat.old) (view seat.new) }
+        ensures had { IfOk result (λ reply. Turned S.stands S.origin S.by M.does M.entry (view seat.old) (view seat.new) step.old reply step.new) }
+        ensures worn { IfErr result (λ worn. (step.new ≡ step.old) × Ended S.stands S.origin S.by (view seat.old) (view seat.new) worn.count) }
+    {
+        if !self.take(rt, &mut seat.place) {
+            return Err(Worn { count: TURNS });
+        }
+        let done = self.apply(&mut seat.place, step);
+        self.give::<Brand, M>(&mut seat.place, &done, step);
+        let Done {
+            was: _,
+            before: _,
+            reply,
+            after: _,
+        } = done;
+        Ok(reply)
     }
 }
 
