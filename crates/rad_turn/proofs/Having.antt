@@ -20,6 +20,14 @@ module _ {E O B : Type 0} where
   has_view None h = absurd (true≢false (sym h))
   has_view (Some v) h = refl
 
+  pub name_is : (k : Option (View E O B)) (h : is_idle k ≡ true) → (view_of k h).name ≡ name_of k
+  name_is None h = absurd (true≢false (sym h))
+  name_is (Some v) h = refl
+
+  pub out_is : (k : Option (View E O B)) (h : is_idle k ≡ true) → (view_of k h).out ≡ out_of k
+  out_is None h = absurd (true≢false (sym h))
+  out_is (Some v) h = refl
+
   pub view_is : (k : Option (View E O B)) (h : is_idle k ≡ true) (w : View E O B) → k ≡ Some w → view_of k h ≡ w
   view_is None h w e = absurd (true≢false (sym h))
   view_is (Some v) h w e = some_is v w e

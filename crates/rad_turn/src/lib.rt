@@ -1,6 +1,7 @@
 //! A desk: a lock over one value whose turns stand in one history.
 #![tactic(auto)]
 
+mod closing;
 mod desk;
 mod fault;
 mod law;
