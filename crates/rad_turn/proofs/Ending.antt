@@ -46,7 +46,7 @@ module _ {S E O B : Type 0} (stands : S → List E → Type 0) (origin : S → O
           other = λ ne. absurd (ne refl);
         };
     apart = λ i j v w ati atj e. (one_view (beginner (origin value) b) v i ati).0 ∙ sym (one_view (beginner (origin value) b) w j atj).0;
-    joining = λ v at ne. absurd (ne (ap (λ (u : View E O B). u.guest) (sym (one_view (beginner (origin value) b) v 0 at).1)));
+    joining = λ v at on. absurd (true≢false (sym on ∙ ap (λ (u : View E O B). u.joins) (sym (one_view (beginner (origin value) b) v 0 at).1)));
     desk = inl (record {
       word = refl;
       value = value;
@@ -89,4 +89,4 @@ module _ {S E O B : Type 0} (stands : S → List E → Type 0) (origin : S → O
   pub closes : (id : ℕ) (k : Option (View E O B)) (h : is_idle k ≡ true) (words : List ℕ) (xs : List S) (y : S) → (view_of k h).name ≡ 0 → (view_of k h).out ≡ [] → Final (Seen (Kept stands origin by) id k) words xs → get_elem? xs 0 ≡ some y
       → Stood stands origin (view_of k h).origin (view_of k h).seen y
   closes id None h words xs y first_one alone last there = absurd (true≢false (sym h))
-  closes id (Some v) h words xs y first_one alone last there = closes_at id v words xs y first_one alone (not_on v.holds (and_left (not v.holds) (v.guest == 0) h)) last there
+  closes id (Some v) h words xs y first_one alone last there = closes_at id v words xs y first_one alone (not_on v.holds (and_left (not v.holds) (not v.joins) h)) last there

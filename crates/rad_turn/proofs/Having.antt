@@ -41,7 +41,7 @@ module _ {E O B : Type 0} where
       → (is_idle last.0 ≡ true) × (length last.1 ≡ 0) × (name_of last.0 ≡ name_of k) × (out_of last.0 ≡ out_of k)
   turn_keeps {S} None h log e last is = absurd (true≢false (sym h))
   turn_keeps {S} (Some v) h log e last is = (
-    ap (λ (m : Me S (Option (View E O B))). is_idle m.0) is ∙ and_right (not v.holds) (v.guest == 0) h,
+    ap (λ (m : Me S (Option (View E O B))). is_idle m.0) is ∙ and_right (not v.holds) (not v.joins) h,
     ap (λ (m : Me S (Option (View E O B))). length m.1) is,
     ap (λ (m : Me S (Option (View E O B))). name_of m.0) is,
     ap (λ (m : Me S (Option (View E O B))). out_of m.0) is,

@@ -3,3 +3,5 @@ pub mod Sitting
 pub mod Turning
 pub mod Having
 pub mod Ending
+pub mod Naming
+pub mod Seating

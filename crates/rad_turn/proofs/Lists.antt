@@ -1,6 +1,7 @@
 -- Entries of a name, and names that rise.
-use Rattle.std.proofs.Common.{◌≡◌, ◌≢◌, ℕ, zero, suc, ◌+◌, ◌<◌, ◌≤◌, ◌==◌, nat_lt, eqb, ltb, Bool, true, false, cond, not, ◌&&◌, ◌||◌, List, [], ◌∷◌, ◌++◌, length, get_or, filter, All, sym, refl, ap, ◌∙◌, subst, arith, eqb-true, eq-eqb, ne_eqb, ltb-true, true≢false}
+use Rattle.std.proofs.Common.{◌≡◌, ◌≢◌, ℕ, zero, suc, ◌+◌, ◌<◌, ◌≤◌, ◌==◌, nat_lt, eqb, ltb, Bool, true, false, cond, not, ◌&&◌, ◌||◌, List, [], ◌∷◌, ◌++◌, length, get_or, filter, All, sym, refl, ap, ◌∙◌, subst, arith, eqb-true, eq-eqb, ne_eqb, ltb-true, true≢false, append_assoc}
 use Rattle.std.proofs.lemmas.List.{append-nil}
+use mathlib.Core.List.{IsPrefix}
 use Rattle.std.proofs.lemmas.List.Elements.{filter-append}
 use Rattle.rad_turn.specs.Names.{is_out, is_rising}
 use Rattle.rad_turn.specs.Views.{entries_of}
@@ -70,3 +71,29 @@ low_not_out k low [] le up = refl
 low_not_out k low (x ∷ xs) le up =
     let above : low < x = ltb-true low x (and_left (nat_lt low x) (is_rising x xs) up) in
     rw (ne_eqb x k (λ e. omega (arith, e))) (low_not_out k x xs (omega arith) (and_right (nat_lt low x) (is_rising x xs) up))
+
+nil_right : {A : Type 0} (xs ys : List A) → xs ++ ys ≡ [] → ys ≡ []
+nil_right [] ys e = e
+nil_right (x ∷ xs) ys e = absurd (not_nil x (xs ++ ys) e)
+
+-- what a beginning has of a name, a longer beginning has
+pub squeeze : {E : Type 0} (by : E → ℕ) (k : ℕ) (xs ys log : List E) → IsPrefix xs ys → IsPrefix ys log → entries_of by k log ≡ entries_of by k xs → entries_of by k log ≡ entries_of by k ys
+squeeze by k xs ys log p q e =
+    let x = p.0 in let y = q.0 in
+    let all : xs ++ (x ++ y) ≡ log = sym (append_assoc xs x y) ∙ (ap (λ l. l ++ y) p.1 ∙ q.1) in
+    let none_behind = behind_none by k xs (x ++ y) (ap (entries_of by k) all ∙ e) in
+    let none_last = nil_right (entries_of by k x) (entries_of by k y) (sym (filter-append (λ e. by e == k) x y) ∙ none_behind) in
+    ap (entries_of by k) (sym q.1) ∙ (filter-append (λ e. by e == k) ys y ∙ (ap (λ l. entries_of by k ys ++ l) none_last ∙ append-nil (entries_of by k ys)))
+
+pub prefix_self : {A : Type 0} (xs : List A) → IsPrefix xs xs
+prefix_self xs = ([], append-nil xs)
+
+-- of two beginnings of one list the shorter begins the longer
+pub prefix_shorter : {A : Type 0} (xs ys zs : List A) → IsPrefix xs zs → IsPrefix ys zs → length xs ≤ length ys → IsPrefix xs ys
+prefix_shorter [] ys zs p q le = (ys, refl)
+prefix_shorter (x ∷ xs) [] zs p q le = absurd (omega arith)
+prefix_shorter (x ∷ xs) (y ∷ ys) [] p q le = absurd (cc (p.1))
+prefix_shorter (x ∷ xs) (y ∷ ys) (z ∷ zs) p q le =
+    let heads : x ≡ y = cc (p.1, q.1) in
+    let rest = prefix_shorter xs ys zs (p.0, cc (p.1)) (q.0, cc (q.1)) (omega arith) in
+    (rest.0, cc (heads, rest.1))

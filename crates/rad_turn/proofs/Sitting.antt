@@ -76,21 +76,21 @@ module _ {E O B : Type 0} where
   }
 
   -- a step of a seat that keeps its name, its guest and what it was told, while the history grows by entries of its own name
-  pub joining_set : (by : E → ℕ) (log log' : List E) (views : List (Option (View E O B))) (id : ℕ) (v w : View E O B) → Sits views id v → w.name ≡ v.name → w.guest ≡ v.guest → w.told ≡ v.told
+  pub joining_set : (by : E → ℕ) (log log' : List E) (views : List (Option (View E O B))) (id : ℕ) (v w : View E O B) → Sits views id v → w.name ≡ v.name → w.joins ≡ v.joins → w.guest ≡ v.guest → w.told ≡ v.told
       → ((k : ℕ) → k ≢ v.name → entries_of by k log' ≡ entries_of by k log) → ((told : List E) → IsPrefix told log → IsPrefix told log')
-      → ((u : View E O B) → Sits views 0 u → u.guest ≢ 0 → Joining by log views u) → (u : View E O B) → Sits (set views id (Some w)) 0 u → u.guest ≢ 0 → Joining by log' (set views id (Some w)) u
-  joining_set by log log' views id v w at named guests tells others longer before u there some_guest =
-      let old = each_set (λ i u. (u' : View E O B) × Sits views i u' × (u.guest ≡ u'.guest) × (u.told ≡ u'.told)) views id w (v, at, guests, tells) (λ i u _ there. (u, there, refl, refl)) 0 u there in
-      let was : Joining by log views old.0 = before old.0 old.1 (λ e. some_guest (old.2 ∙ e)) in record {
+      → ((u : View E O B) → Sits views 0 u → u.joins ≡ true → Joining by log views u) → (u : View E O B) → Sits (set views id (Some w)) 0 u → u.joins ≡ true → Joining by log' (set views id (Some w)) u
+  joining_set by log log' views id v w at named flags guests tells others longer before u there on =
+      let old = each_set (λ i u. (u' : View E O B) × Sits views i u' × (u.guest ≡ u'.guest) × (u.told ≡ u'.told) × (u.joins ≡ u'.joins)) views id w (v, at, guests, tells, flags) (λ i u _ there. (u, there, refl, refl, refl)) 0 u there in
+      let was : Joining by log views old.0 = before old.0 old.1 (sym old.4 ∙ on) in record {
         told = subst (λ (t : List E). IsPrefix t log') (sym old.3) (longer old.0.told was.told);
         all = ap (λ (k : ℕ). entries_of by k log') old.2 ∙ (others old.0.guest (λ is. was.gone id v at (sym is)) ∙ (was.all ∙ (λ i. entries_of by (sym old.2 i) (sym old.3 i))));
         gone = λ i x sits. let b = named_before views id v w at named i x sits in λ is. was.gone i b.0 b.1 (sym b.2 ∙ (is ∙ old.2));
       }
 
   -- a seat that is idle has a view
-  pub at_idle : {S : Type 0} (F : Me S (Option (View E O B)) → Type 0) → ((v : View E O B) (c : List (ℕ × S)) → v.holds ≡ false → v.guest ≡ 0 → F (Some v, c)) → (me : Me S (Option (View E O B))) → is_idle me.0 ≡ true → F me
+  pub at_idle : {S : Type 0} (F : Me S (Option (View E O B)) → Type 0) → ((v : View E O B) (c : List (ℕ × S)) → v.holds ≡ false → v.joins ≡ false → F (Some v, c)) → (me : Me S (Option (View E O B))) → is_idle me.0 ≡ true → F me
   at_idle {S} F go me idle = of me.0 me.1 idle
     where
       of : (k : Option (View E O B)) (c : List (ℕ × S)) → is_idle k ≡ true → F (k, c)
       of None c h = absurd (true≢false (sym h))
-      of (Some v) c h = go v c (not_on v.holds (and_left (not v.holds) (v.guest == 0) h)) (eqb-true v.guest 0 (and_right (not v.holds) (v.guest == 0) h))
+      of (Some v) c h = go v c (not_on v.holds (and_left (not v.holds) (not v.joins) h)) (not_on v.joins (and_right (not v.holds) (not v.joins) h))

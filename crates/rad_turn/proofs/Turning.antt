@@ -50,7 +50,7 @@ module _ {S E O B : Type 0} (stands : S → List E → Type 0) (origin : S → O
         rising = r.rising;
         each = each_set (Fits by r.log r.out r.from r.beginning) s.views id w (fits_whole by r.log r.out r.from r.beginning id v v.holds f) (λ i u _ there. r.each i u there);
         apart = apart_set s.views id v w at refl r.apart;
-        joining = joining_set by r.log r.log s.views id v w at refl refl refl (λ k _. refl) (λ told p. p) r.joining;
+        joining = joining_set by r.log r.log s.views id v w at refl refl refl refl (λ k _. refl) (λ told p. p) r.joining;
         desk = inl (record {
           word = free.word;
           value = free.value;
@@ -93,7 +93,7 @@ module _ {S E O B : Type 0} (stands : S → List E → Type 0) (origin : S → O
     rising = r.rising;
     each = each_set (Fits by r.log r.out r.from r.beginning) s.views id w (fits_whole by r.log r.out r.from r.beginning id v true f) (λ i u _ there. r.each i u there);
     apart = apart_set s.views id v w at refl r.apart;
-    joining = joining_set by r.log r.log s.views id v w at refl refl refl (λ k _. refl) (λ told p. p) r.joining;
+    joining = joining_set by r.log r.log s.views id v w at refl refl refl refl (λ k _. refl) (λ told p. p) r.joining;
     desk = inr (record {
       word = word_set s.words (2 * length r.log) new free.word ∙ ap (λ (n : ℕ). n ∷ []) up;
       short = short;
@@ -166,7 +166,7 @@ module _ {S E O B : Type 0} (stands : S → List E → Type 0) (origin : S → O
             })
             (λ i u ne there. later s r id v e at own i u ne there);
         apart = apart_set s.views id v w at refl r.apart;
-        joining = joining_set by r.log log s.views id v w at refl refl refl (λ k ne. entries_of_behind by k r.log e (λ is. ne (sym is ∙ own))) (λ told p. prefix_longer told r.log e p) r.joining;
+        joining = joining_set by r.log log s.views id v w at refl refl refl refl (λ k ne. entries_of_behind by k r.log e (λ is. ne (sym is ∙ own))) (λ told p. prefix_longer told r.log e p) r.joining;
         desk = inl (record {
           word = word_set s.words (2 * length r.log + 1) new taken.word ∙ ap (λ (n : ℕ). n ∷ []) (omega arith);
           value = y;

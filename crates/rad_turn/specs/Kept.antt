@@ -57,5 +57,5 @@ pub record Kept {S E O B : Type 0} (stands : S → List E → Type 0) (origin : 
   pub rising : is_rising 0 out ≡ true
   pub each : (place : ℕ) (v : View E O B) → Sits s.views place v → Fits by log out from beginning place v
   pub apart : (i j : ℕ) (v w : View E O B) → Sits s.views i v → Sits s.views j w → v.name ≡ w.name → i ≡ j
-  pub joining : (v : View E O B) → Sits s.views 0 v → v.guest ≢ 0 → Joining by log s.views v
+  pub joining : (v : View E O B) → Sits s.views 0 v → v.joins ≡ true → Joining by log s.views v
   pub desk : IsFree stands origin log from s ⊎ IsTaken log s

@@ -1,5 +1,5 @@
 -- A seat's view, where the seat has one.
-use Rattle.std.specs.Prelude.{◌≡◌, ℕ, Bool, true, false, not, ◌&&◌, ◌==◌, List, [], Option, Some, None}
+use Rattle.std.specs.Prelude.{◌≡◌, ℕ, Bool, true, false, not, ◌&&◌, List, [], Option, Some, None}
 use mathlib.Core.Path.{sym}
 use mathlib.Core.Bool.{true≢false}
 use Rattle.rad_turn.specs.declared.view.View.{View}
@@ -7,7 +7,7 @@ use Rattle.rad_turn.specs.declared.view.View.{View}
 -- a seat that does nothing at the moment: it doesn't hold the value, and takes in no other seat
 abbrev pub is_idle : {E O B : Type 0} → Option (View E O B) → Bool
 is_idle None = false
-is_idle (Some v) = not v.holds && (v.guest == 0)
+is_idle (Some v) = not v.holds && not v.joins
 
 abbrev pub name_of : {E O B : Type 0} → Option (View E O B) → ℕ
 name_of None = 0

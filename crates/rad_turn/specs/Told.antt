@@ -1,8 +1,10 @@
 -- What each step on the table tells the seat that makes it.
-use Rattle.std.specs.Prelude.{◌≡◌, ◌≢◌, ℕ, ◌+◌, ◌^◌, ◌<◌, Bool, true, false, List, [], ◌∷◌, ◌++◌, length, Option, Some, None}
+use Rattle.std.specs.Prelude.{◌≡◌, ◌≢◌, ◌⊎◌, ℕ, ◌+◌, ◌^◌, ◌<◌, Bool, true, false, List, [], ◌∷◌, ◌++◌, length, Option, Some, None}
 use Rattle.atomic_table.specs.Table.{Me, Step, rest}
 use Rattle.rad_turn.specs.declared.view.View.{View}
-use Rattle.rad_turn.specs.Views.{Learns, Stood}
+use mathlib.Core.List.{IsPrefix}
+use Rattle.rad_turn.specs.Names.{least_free, with_name, without_name}
+use Rattle.rad_turn.specs.Views.{entries_of, Learns, Stood}
 
 module _ {S E O B : Type 0} (stands : S → List E → Type 0) (origin : S → O) (by : E → ℕ) where
   -- a seat with this view has seen the whole history: it has 2^62 entries
@@ -60,3 +62,31 @@ pub record Releases {S E O B : Type 0} (stands : S → List E → Type 0) (origi
   pub held : m.1 ≡ (0, value) ∷ []
   pub named : by entry ≡ view.name
   pub stood : Stood stands origin view.origin (view.seen ++ entry ∷ []) value
+
+-- a seat that splits gains the least name that isn't out, and the new seat has seen as much
+abbrev pub cut_left : {E O B : Type 0} → Option (View E O B) → Option (View E O B)
+cut_left None = None
+cut_left (Some v) = Some (record v { out = with_name (least_free v.out) v.out })
+
+abbrev pub cut_right : {E O B : Type 0} → Option (View E O B) → Option (View E O B)
+cut_right None = None
+cut_right (Some v) = Some (record v { name = least_free v.out; out = []; holds = false; joins = false; guest = 0; told = [] })
+
+-- a seat that takes in another one is told what that one has seen
+abbrev pub glued : {E O B : Type 0} → Option (View E O B) → Option (View E O B) → Option (View E O B)
+glued None other = None
+glued (Some v) None = Some v
+glued (Some v) (Some w) = Some (record v { joins = true; guest = w.name; told = w.seen })
+
+-- a seat that was told of this history, and of a seat's name, has seen all that either had, and nothing but that
+pub record Takes {E O B : Type 0} (by : E → ℕ) (v : View E O B) (guest : ℕ) (told seen : List E) : Type 0 where
+  pub learns : Learns by v seen
+  pub told_all : IsPrefix told seen
+  pub either : (seen ≡ v.seen) ⊎ (seen ≡ told)
+  pub entries : entries_of by guest seen ≡ entries_of by guest told
+
+abbrev pub TakesIn : {S E O B : Type 0} → (E → ℕ) → View E O B → List (ℕ × S) → Me S (Option (View E O B)) → Type 0
+TakesIn {S} {E} by v slots m' = (seen : List E) × (m' ≡ (Some (record v { seen = seen; out = without_name v.guest v.out; joins = false }), slots)) × Takes by v v.guest v.told seen
+
+abbrev pub settled : {S E O B : Type 0} → (E → ℕ) → Step S → Me S (Option (View E O B)) → ℕ → Me S (Option (View E O B)) → Type 0
+settled {S} {E} {O} {B} by st m found m' = (v : View E O B) → m.0 ≡ Some v → v.joins ≡ true → TakesIn by v m.1 m'

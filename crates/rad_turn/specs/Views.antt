@@ -10,7 +10,7 @@ entries_of by name log = filter (λ e. by e == name) log
 
 -- the view of the first seat, which has seen nothing
 abbrev pub beginner : {E O B : Type 0} → O → B → View E O B
-beginner o b = record { seen = []; name = 0; out = []; holds = false; guest = 0; told = []; origin = o; beginning = b }
+beginner o b = record { seen = []; name = 0; out = []; holds = false; joins = false; guest = 0; told = []; origin = o; beginning = b }
 
 -- the seat stays who it is
 pub record IsSameSeat {E O B : Type 0} (v w : View E O B) : Type 0 where

@@ -5,6 +5,7 @@ mod closing;
 mod desk;
 mod fault;
 mod law;
+mod names;
 mod seat;
 mod stands;
 mod view;

@@ -10,7 +10,9 @@ pub struct View<E, O, B> {
     pub out: LinkedList<u32>,
     /// Whether the seat has taken the desk.
     pub holds: bool,
-    /// At the first seat, the name of the seat that is just being joined into it, and what that one had seen. Else 0.
+    /// Whether the seat, which is the first one, is just taking in another seat.
+    pub joins: bool,
+    /// The name of the seat that it took in last, and what that one had seen.
     pub guest: u32,
     pub told: LinkedList<E>,
     pub origin: O,
