@@ -5,3 +5,4 @@ pub mod Having
 pub mod Ending
 pub mod Naming
 pub mod Seating
+pub mod Sharing

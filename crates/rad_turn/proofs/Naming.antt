@@ -1,5 +1,5 @@
 -- The least name that isn't out, and names that come and leave.
-use Rattle.std.proofs.Common.{◌≡◌, ◌≢◌, ℕ, zero, suc, ◌+◌, ◌-◌, ◌<◌, ◌≤◌, ◌==◌, nat_lt, eqb, ltb, Bool, true, false, cond, not, ◌&&◌, ◌||◌, List, [], ◌∷◌, ◌++◌, length, take, drop, insert, filter, if◌then◌else◌, sym, refl, ap, ◌∙◌, subst, arith, eqb-true, eq-eqb, ne_eqb, ltb-true, ltb-false, lt-ltb, le-ltb, true≢false}
+use Rattle.std.proofs.Common.{◌≡◌, ◌≢◌, ℕ, zero, suc, ◌+◌, ◌-◌, ◌<◌, ◌≤◌, ◌==◌, nat_lt, eqb, ltb, Bool, true, false, cond, not, ◌&&◌, ◌||◌, List, [], ◌∷◌, ◌++◌, length, take, drop, insert, filter, if◌then◌else◌, sym, refl, ap, ◌∙◌, subst, arith, eqb-true, eq-eqb, ne_eqb, ltb-true, ltb-false, lt-ltb, le-ltb, true≢false, get_or, drop-cons, add-one}
 use mathlib.Core.Logic.{dite}
 use native.Mathlib.Decide.{ℕ_discrete, dec_le}
 use Rattle.rad_turn.specs.Names.{is_out, is_rising, free_from, least_free, with_name, without_name, IsLeastFree}
@@ -143,3 +143,15 @@ without_rising low name (x ∷ xs) up =
     let rest : is_rising x (without_name name xs) ≡ true = without_rising x name xs (and_right (nat_lt low x) (is_rising x xs) up) in
     dite (ℕ_discrete x name) (λ here. rw (eq-eqb x name here) (rising_from low x (without_name name xs) (omega arith) rest))
         (λ other. rw (ne_eqb x name other) (both_true (nat_lt low x) (is_rising x (without_name name xs)) (lt-ltb low x above) rest))
+
+if_bound : (b : Bool) (n m next : ℕ) → n ≤ m → next ≡ (if b then n + 1 else n) → next ≤ m + 1
+if_bound true n m next le e = omega arith
+if_bound false n m next le e = omega arith
+
+-- one name more is looked at
+pub free_step : (out : List ℕ) (i name next : ℕ) → i < length out → name ≤ i + 1 → next ≡ (if get_or out i 0 == name then name + 1 else name)
+    → (next ≤ i + 1 + 1) × (free_from next (drop (i + 1) out) ≡ free_from name (drop i out))
+free_step out i name next inside le e = (
+  if_bound (get_or out i 0 == name) name (i + 1) next le e,
+  ap (λ (n : ℕ). free_from n (drop (i + 1) out)) e ∙ (ap (λ (k : ℕ). free_from (if get_or out i 0 == name then name + 1 else name) (drop k out)) (add-one i) ∙ sym (ap (free_from name) (drop-cons out i 0 inside))),
+)

@@ -133,3 +133,129 @@ module _ {S E O B : Type 0} (stands : S → List E → Type 0) (origin : S → O
           either = either;
           entries = of_both v.guest v.told told joining.all;
         }
+
+  -- the longer of what the first seat had and what it was told
+  abbrev pub Settled : State S (Option (View E O B)) → ℕ → View E O B → Type 0
+  Settled s id v = (seen : List E) × Kept stands origin by record { words = s.words; homes = s.homes; views = set s.views id (Some (record v { seen = seen; out = without_name v.guest v.out; joins = false })) } × Takes by v v.guest v.told seen
+
+  settle : (s : State S (Option (View E O B))) (r : Kept stands origin by s) (id : ℕ) (v : View E O B) → Sits s.views id v → v.holds ≡ false → v.name ≡ 0 → v.joins ≡ true → Settled s id v
+  settle s r id v at off named on =
+      let f = r.each id v at in
+      let joining = r.joining v (subst (λ (i : ℕ). Sits s.views i v) (here s r id v at off named) at) on in
+      dite (dec_le (length v.told) (length v.seen))
+          (λ less. let told = prefix_shorter v.told v.seen r.log joining.told f.seen less in
+              (v.seen, settles_at s r id v at off named on v.seen (prefix_self v.seen) told f.seen, takes_at s r id v at off named on v.seen (prefix_self v.seen) told f.seen (inl refl)))
+          (λ more. let mine = prefix_shorter v.seen v.told r.log f.seen joining.told (omega arith) in
+              (v.told, settles_at s r id v at off named on v.told mine (prefix_self v.told) joining.told, takes_at s r id v at off named on v.told mine (prefix_self v.told) joining.told (inr refl)))
+
+  pub settles : (slots id : ℕ) (v : View E O B) (c : List (ℕ × S)) → v.holds ≡ false → v.name ≡ 0 → v.joins ≡ true
+      → Allows (Kept stands origin by) slots id (Some v, c) 0 (λ x. x) (settled {S = S} {E = E} {O = O} {B = B} by (step slots 0 0 0 none) (Some v, c))
+  settles slots id v c off named on s r wide at small =
+      let t = settle s r id v at off named on in
+      let w : View E O B = record v { seen = t.0; out = without_name v.guest v.out; joins = false } in (
+        Some w,
+        keeps,
+        tt,
+        subst (λ (x : List ℕ). Kept stands origin by record { words = x; homes = s.homes; views = set s.views id (Some w) }) (sym (set-get_or s.words 0 0)) t.1,
+        λ u is _. subst (λ (u : View E O B). TakesIn {S = S} by u c (Some w, c)) (some_is v u is) (t.0, refl, t.2),
+      )
+
+  pub glues : (id other : ℕ) (v w : View E O B) → v.holds ≡ false → v.name ≡ 0 → w.holds ≡ false
+      → Joins {S = S} (Kept stands origin by) id (Some v) other (Some w) (glued (Some v) (Some w)) None
+  glues id other v w off named away s r at ne there =
+      let v' : View E O B = record v { joins = true; guest = w.name; told = w.seen } in
+      let first_here : id ≡ 0 = here s r id v at off named in
+      let atw : Sits s.views other w = sym (set_else s.views id other (Some v') ne) ∙ there in
+      let f = r.each id v at in let g = r.each other w atw in
+      let views : List (Option (View E O B)) = set s.views id (Some v') in record {
+        log = r.log;
+        out = r.out;
+        from = r.from;
+        beginning = r.beginning;
+        short = r.short;
+        rising = r.rising;
+        each = λ i u sits. each_set (Fits by r.log r.out r.from r.beginning) s.views id v'
+            (record { seen = f.seen; mine = f.mine; origin = f.origin; beginning = f.beginning; first = f.first; other = f.other })
+            (λ i u _ at. r.each i u at) i u (sits_none views other i u sits).1;
+        apart = λ i j x y ati atj e. apart_set s.views id v v' at refl r.apart i j x y (sits_none views other i x ati).1 (sits_none views other j y atj).1 e;
+        joining = λ u sits on. each_set (λ i u. i ≡ 0 → u.joins ≡ true → Joining by r.log (set views other None) u) s.views id v'
+            (λ _ _. record {
+              told = g.seen;
+              all = g.mine;
+              gone = λ i x sits is. let n = sits_none views other i x sits in let b = named_before s.views id v v' at refl i x n.1 in n.0 (r.apart i other b.0 w b.1 atw (sym b.2 ∙ is));
+            })
+            (λ i u not_first _ z. absurd (not_first (z ∙ sym first_here))) 0 u (sits_none views other 0 u sits).1 refl on;
+        desk = same_desk r.log r.from s (set views other None)
+            (λ i u sits on. back_set s.views id v' off i u (sits_none views other i u sits).1 on)
+            (λ i u sits on. set_else views other i None (λ e. true≢false (sym on ∙ (ap (λ (x : View E O B). x.holds) (one_seat s.views other u w (subst (λ (j : ℕ). Sits s.views j u) e sits) atw) ∙ away))) ∙ forth_set s.views id v v' at off i u sits on)
+            r.desk;
+      }
+
+  pub cuts : (id : ℕ) (v : View E O B) → v.holds ≡ false → v.joins ≡ false → v.name ≡ 0 → Splits {S = S} (Kept stands origin by) id (Some v) (cut_left (Some v)) (cut_right (Some v))
+  cuts id v off alone named s r at =
+      let name : ℕ = least_free v.out in
+      let w : View E O B = record v { out = with_name name v.out } in
+      let x : View E O B = record v { name = name; out = []; holds = false; joins = false; guest = 0; told = [] } in
+      let first_here : id ≡ 0 = here s r id v at off named in
+      let f = r.each id v at in let first = f.first first_here in
+      let views : List (Option (View E O B)) = set s.views id (Some w) in
+      let out : List ℕ = with_name name r.out in
+      let least : IsLeastFree name r.out = subst (λ (o : List ℕ). IsLeastFree (least_free o) r.out) (sym first.1) (least_is r.out r.rising) in
+      let free_before : (k : ℕ) → is_out k out ≡ false → is_out k r.out ≡ false = λ k free. not_true (is_out k r.out) (λ on. true≢false (sym (with_keeps k name r.out on) ∙ free)) in
+      let positive = least.positive in
+      let known : (i : ℕ) (u : View E O B) → Sits views i u → u.name ≢ name =
+          each_set (λ i u. u.name ≢ name) s.views id w (λ e. let z : v.name ≡ 0 = named in omega (arith, e, z))
+              (λ i u ne there e. true≢false (sym ((r.each i u there).other (λ z. ne (z ∙ sym first_here))) ∙ (ap (λ (k : ℕ). is_out k r.out) e ∙ least.free))) in record {
+        log = r.log;
+        out = out;
+        from = r.from;
+        beginning = r.beginning;
+        short = r.short;
+        rising = with_rising 0 name r.out r.rising positive least.free;
+        each = λ i u sits. ⊎_elim
+            (λ (t : Sits views i u). each_set (Fits by r.log out r.from r.beginning) s.views id w
+                (record {
+                  seen = f.seen;
+                  mine = f.mine;
+                  origin = f.origin;
+                  beginning = f.beginning;
+                  first = λ _. (first.0, ap (with_name name) first.1, λ k free. first.2 k (free_before k free));
+                  other = λ ne. absurd (ne first_here);
+                })
+                (λ i u ne there. let g = r.each i u there in record {
+                  seen = g.seen;
+                  mine = g.mine;
+                  origin = g.origin;
+                  beginning = g.beginning;
+                  first = λ z. absurd (ne (z ∙ sym first_here));
+                  other = λ nz. with_keeps u.name name r.out (g.other nz);
+                })
+                i u t)
+            (λ (t : (i ≡ length views) × (x ≡ u)). subst (λ (z : View E O B). Fits by r.log out r.from r.beginning i z) t.1 record {
+              seen = f.seen;
+              mine = first.2 name least.free;
+              origin = f.origin;
+              beginning = f.beginning;
+              first = λ z. absurd (some_length s.views id v w at (sym z ∙ t.0));
+              other = λ _. with_has name r.out;
+            })
+            (sits_more views x i u sits);
+        apart = λ i j y z aty atz e. ⊎_elim
+            (λ (a : Sits views i y). ⊎_elim
+                (λ (b : Sits views j z). apart_set s.views id v w at refl r.apart i j y z a b e)
+                (λ (b : (j ≡ length views) × (x ≡ z)). absurd (known i y a (e ∙ ap (λ (q : View E O B). q.name) (sym b.1))))
+                (sits_more views x j z atz))
+            (λ (a : (i ≡ length views) × (x ≡ y)). ⊎_elim
+                (λ (b : Sits views j z). absurd (known j z b (sym e ∙ ap (λ (q : View E O B). q.name) (sym a.1))))
+                (λ (b : (j ≡ length views) × (x ≡ z)). a.0 ∙ sym b.0)
+                (sits_more views x j z atz))
+            (sits_more views x i y aty);
+        joining = λ u sits on. ⊎_elim
+            (λ (t : Sits views 0 u). absurd (true≢false (sym on ∙ each_set (λ i u. i ≡ 0 → u.joins ≡ false) s.views id w (λ _. alone) (λ i u ne _ z. absurd (ne (z ∙ sym first_here))) 0 u t refl)))
+            (λ (t : (0 ≡ length views) × (x ≡ u)). absurd (some_length s.views id v w at t.0))
+            (sits_more views x 0 u sits);
+        desk = same_desk r.log r.from s (views ++ Some x ∷ [])
+            (λ i u sits on. ⊎_elim (λ (t : Sits views i u). back_set s.views id w off i u t on) (λ (t : (i ≡ length views) × (x ≡ u)). absurd (true≢false (sym on ∙ ap (λ (q : View E O B). q.holds) (sym t.1)))) (sits_more views x i u sits))
+            (λ i u sits on. at_longer views (Some x ∷ []) i (Some u) (forth_set s.views id v w at off i u sits on))
+            r.desk;
+      }

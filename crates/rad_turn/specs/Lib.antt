@@ -4,4 +4,5 @@ pub mod Views
 pub mod Kept
 pub mod Told
 pub mod Turned
+pub mod Seated
 pub mod Sides

@@ -1,7 +1,7 @@
 //! The rule of a desk's table, and what each step on it tells.
 use crate::stands::Stands;
 use crate::view::{Known, View};
-use atomic_table::{Play, TableRule};
+use atomic_table::{Join, Play, Split, TableRule};
 use std::marker::{Brand, PhantomData};
 use std::snapshot::Snapshot;
 
@@ -64,4 +64,38 @@ impl<S, E, O, B, J: Makes<E>> Play<S, Option<View<E, O, B>>> for Give<J> {
     ghost use Rattle.rad_turn.specs.Told.{gave};
 
     ghost then = { gave J.entries };
+}
+
+/// How a new seat comes.
+pub struct Cut;
+
+impl<E, O, B> Split<Option<View<E, O, B>>> for Cut {
+    ghost use Rattle.rad_turn.specs.Told.{cut_left, cut_right};
+
+    ghost left = { cut_left };
+
+    ghost right = { cut_right };
+}
+
+/// How the first seat is told what another one has seen, which is then gone.
+pub struct Glue;
+
+impl<E, O, B> Join<Option<View<E, O, B>>> for Glue {
+    ghost use Rattle.std.specs.Prelude.{None};
+    ghost use Rattle.rad_turn.specs.Told.{glued};
+
+    ghost both = { glued };
+
+    ghost spent = { None };
+}
+
+/// The load at which the first seat takes in what it was told.
+pub struct Settle<S> {
+    of: PhantomData<S>,
+}
+
+impl<S: Stands> Play<S, Known<S>> for Settle<S> {
+    ghost use Rattle.rad_turn.specs.Told.{settled};
+
+    ghost then = { settled S.by };
 }

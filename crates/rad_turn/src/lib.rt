@@ -5,8 +5,10 @@ mod closing;
 mod desk;
 mod fault;
 mod law;
+
 mod names;
 mod seat;
+mod seats;
 mod stands;
 mod view;
 

@@ -1,5 +1,5 @@
 //! The names of the seats that are out, in rising order.
-ghost use Rattle.std.specs.Prelude.{◌≡◌, ◌-◌, ◌^◌, ◌<◌, ◌≤◌, true, length, filter, not, ◌==◌, OnErr, OnOk};
+ghost use Rattle.std.specs.Prelude.{◌≡◌, ◌+◌, ◌-◌, ◌^◌, ◌<◌, ◌≤◌, true, length, filter, not, ◌==◌, if◌then◌else◌, OnErr, OnOk};
 ghost use Rattle.rad_turn.specs.Names.{is_rising, least_free, with_name, without_name};
 
 use rad_edge::NoMemory;
@@ -11,11 +11,16 @@ pub(crate) fn free_name(out: &[u32]) -> u32
 {
     let mut name = 1;
     for taken in out {
-        if *taken == name {
-            name += 1;
-        }
+        name = name_after(name, *taken);
     }
     name
+}
+
+fn name_after(name: u32, taken: u32) -> u32
+    requires { name < 2 ^ 32 - 1 }
+    ensures { result ≡ (if taken == name then name + 1 else name) }
+{
+    if taken == name { name + 1 } else { name }
 }
 
 /// Puts the least name that isn't out into its place.
