@@ -65,6 +65,14 @@ module _ {E : Type 0} (by : E → ℕ) where
   all_out out (e ∷ es) h = all_cons (λ e. is_out (by e) out ≡ true) e es (let is = head_out out e es h (is_out (by e) out) refl in is)
       (all_out out es (λ k free. tail_none k (by e == k) e (entries_of by k es) (h k free)))
 
+-- where no name is out, there is no entry of one that is
+pub none_out : {E : Type 0} (by : E → ℕ) (out : List ℕ) (es : List E) → All (λ e. is_out (by e) out ≡ true) es → out ≡ [] → es ≡ []
+none_out by out [] all is = refl
+none_out by out (e ∷ es) all is = absurd (true≢false (sym (all 0 e (omega arith)) ∙ ap (is_out (by e)) is))
+
+pub alone_sees : {E : Type 0} (by : E → ℕ) (out : List ℕ) (seen between log : List E) → log ≡ seen ++ between → All (λ e. is_out (by e) out ≡ true) between → out ≡ [] → log ≡ seen
+alone_sees by out seen between log is all none = is ∙ (ap (λ l. seen ++ l) (none_out by out between all none) ∙ append-nil seen)
+
 -- no name that is at most `low` is among those that rise from above it
 pub low_not_out : (k low : ℕ) (out : List ℕ) → k ≤ low → is_rising low out ≡ true → is_out k out ≡ false
 low_not_out k low [] le up = refl

@@ -13,7 +13,7 @@ use Rattle.rad_turn.specs.Names.{is_out, is_rising, least_free, with_name, witho
 use Rattle.rad_turn.specs.Views.{entries_of, Learns, Stood}
 use Rattle.rad_turn.specs.Kept.{Sits, Fits, Joining, IsFree, IsTaken, Kept}
 use Rattle.rad_turn.specs.Told.{cut_left, cut_right, glued, Takes, TakesIn, settled}
-use Rattle.rad_turn.proofs.Lists.{not_true, behind_none, all_out, squeeze, prefix_self, prefix_shorter}
+use Rattle.rad_turn.proofs.Lists.{not_true, behind_none, all_out, alone_sees, squeeze, prefix_self, prefix_shorter}
 use Rattle.rad_turn.proofs.Naming.{least_is, with_keeps, with_has, with_rising, without_out, without_rising}
 use Rattle.rad_turn.proofs.Sitting.{set_at, some_is, one_seat, each_set, named_before, apart_set, first_place}
 
@@ -122,12 +122,14 @@ module _ {S E O B : Type 0} (stands : S → List E → Type 0) (origin : S → O
     takes_at on seen mine told within either =
         let f = r.each id v at in let first = f.first here in
         let joining = r.joining v (subst (λ (i : ℕ). Sits s.views i v) here at) on in
-        let of_both : (k : ℕ) (xs : List E) → IsPrefix xs seen → entries_of by k r.log ≡ entries_of by k xs → entries_of by k seen ≡ entries_of by k xs = λ k xs p e. sym (squeeze by k xs seen r.log p within e) ∙ e in record {
+        let of_both : (k : ℕ) (xs : List E) → IsPrefix xs seen → entries_of by k r.log ≡ entries_of by k xs → entries_of by k seen ≡ entries_of by k xs = λ k xs p e. sym (squeeze by k xs seen r.log p within e) ∙ e in
+        let others : All (λ e. is_out (by e) v.out ≡ true) mine.0 = all_out by v.out mine.0 (λ k free. behind_none by k v.seen mine.0 (ap (entries_of by k) mine.1 ∙ of_both k v.seen mine (first.2 k (sym (ap (is_out k) first.1) ∙ free)))) in record {
           learns = record {
             between = mine.0;
             is = sym mine.1;
             mine = of_both v.name v.seen mine f.mine;
-            others = λ _. all_out by v.out mine.0 (λ k free. behind_none by k v.seen mine.0 (ap (entries_of by k) mine.1 ∙ of_both k v.seen mine (first.2 k (sym (ap (is_out k) first.1) ∙ free))));
+            others = λ _. others;
+            alone = λ _ none. alone_sees by v.out v.seen mine.0 seen (sym mine.1) others none;
           };
           told_all = told;
           either = either;

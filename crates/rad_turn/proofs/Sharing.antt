@@ -71,7 +71,7 @@ module _ {E O B : Type 0} where
         ap name_of knows,
         ap out_of knows,
         λ h. subst (λ (z : View E O B). Joins by v w z) (sym (view_is m2.0 h last knows)) record {
-          learns = record { between = takes.learns.between; is = takes.learns.is; mine = takes.learns.mine; others = takes.learns.others };
+          learns = record { between = takes.learns.between; is = takes.learns.is; mine = takes.learns.mine; others = takes.learns.others; alone = takes.learns.alone };
           told = takes.told_all;
           either = takes.either;
           entries = takes.entries;

@@ -13,7 +13,7 @@ use Rattle.rad_turn.specs.Names.{is_out, is_rising}
 use Rattle.rad_turn.specs.Views.{entries_of, Learns}
 use Rattle.rad_turn.specs.Seats.{is_idle}
 use Rattle.rad_turn.specs.Kept.{Sits, Fits, Joining}
-use Rattle.rad_turn.proofs.Lists.{behind_none, all_out, low_not_out, and_left, and_right, not_on}
+use Rattle.rad_turn.proofs.Lists.{behind_none, all_out, alone_sees, low_not_out, and_left, and_right, not_on}
 
 -- an element that is set stands there
 pub set_at : {A : Type 0} (l : List A) (i : ℕ) (a b : A) → get_elem? l i ≡ some b → get_elem? (set l i a) i ≡ some a
@@ -56,13 +56,16 @@ module _ {E O B : Type 0} where
 
   -- what a seat learns from the whole history
   pub learns : (by : E → ℕ) (log : List E) (out : List ℕ) (o : O) (b : B) (place : ℕ) (v : View E O B) → is_rising 0 out ≡ true → Fits by log out o b place v → Learns by v log
-  learns by log out o b place v up f = let between : List E = f.seen.0 in let is : v.seen ++ between ≡ log = f.seen.1 in record {
-    between = between;
-    is = sym is;
-    mine = f.mine;
-    others = λ zero. let first = f.first (first_place by log out o b place v up f zero) in
-        all_out by v.out between (λ k free. behind_none by k v.seen between (ap (entries_of by k) is ∙ first.2 k (sym (ap (is_out k) first.1) ∙ free)));
-  }
+  learns by log out o b place v up f =
+      let between : List E = f.seen.0 in let is : v.seen ++ between ≡ log = f.seen.1 in
+      let others : v.name ≡ 0 → All (λ e. is_out (by e) v.out ≡ true) between = λ named. let first = f.first (first_place by log out o b place v up f named) in
+          all_out by v.out between (λ k free. behind_none by k v.seen between (ap (entries_of by k) is ∙ first.2 k (sym (ap (is_out k) first.1) ∙ free))) in record {
+        between = between;
+        is = sym is;
+        mine = f.mine;
+        others = others;
+        alone = λ named none. alone_sees by v.out v.seen between log (sym is) (others named) none;
+      }
 
   -- a seat that has seen the whole history
   pub fits_whole : (by : E → ℕ) (log : List E) (out : List ℕ) (o : O) (b : B) (place : ℕ) (v : View E O B) (holds : Bool) → Fits by log out o b place v → Fits by log out o b place (record v { seen = log; holds = holds })

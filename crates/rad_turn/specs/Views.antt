@@ -19,12 +19,14 @@ pub record IsSameSeat {E O B : Type 0} (v w : View E O B) : Type 0 where
   pub origin : w.origin ≡ v.origin
   pub beginning : w.beginning ≡ v.beginning
 
--- what is seen begins with what was seen; what is new is of no name but `own`'s and, at the first seat, of names that are out
+-- What is seen begins with what was seen, and has no further entry of the seat's name.
+-- What the first seat newly sees is of names that are out; where none is out it had seen all
 pub record Learns {E O B : Type 0} (by : E → ℕ) (v : View E O B) (seen : List E) : Type 0 where
   pub between : List E
   pub is : seen ≡ v.seen ++ between
   pub mine : entries_of by v.name seen ≡ entries_of by v.name v.seen
   pub others : v.name ≡ 0 → All (λ e. is_out (by e) v.out ≡ true) between
+  pub alone : v.name ≡ 0 → v.out ≡ [] → seen ≡ v.seen
 
 -- a value of this origin stands for this history
 pub record Stood {S E O : Type 0} (stands : S → List E → Type 0) (origin : S → O) (from : O) (log : List E) (value : S) : Type 0 where

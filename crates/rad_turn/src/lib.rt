@@ -2,6 +2,7 @@
 #![tactic(auto)]
 
 mod closing;
+mod crossing;
 mod desk;
 mod fault;
 mod law;
@@ -12,6 +13,7 @@ mod seats;
 mod stands;
 mod view;
 
+pub use crossing::crosses_threads;
 pub use desk::Desk;
 pub use fault::{CloseFault, Worn};
 pub use seat::Seat;

@@ -20,8 +20,13 @@ pub struct Seat<S: Stands> {
 }
 
 impl<S: Stands> Seat<S> {
+    ghost use Rattle.std.specs.Prelude.{◌≡◌};
+    ghost use Rattle.rad_turn.specs.Sides.{view};
+
     /// The seat's name, which is 0 for the first seat.
-    pub fn name(&self) -> u32 {
+    pub fn name(&self) -> u32
+        ensures { result ≡ (view self.now).name }
+    {
         self.name
     }
 }
