@@ -1,12 +1,11 @@
 -- The rule at a desk's beginning and end.
-use Rattle.std.proofs.Common.{◌≡◌, ◌≢◌, ℕ, zero, suc, ◌+◌, ◌^◌, ◌<◌, ◌≤◌, ◌==◌, Bool, true, false, not, ◌&&◌, List, [], ◌∷◌, ◌++◌, length, map, Option, Some, None, sym, refl, ap, ◌∙◌, subst, inl, inr, ⊎_elim, arith, true≢false, eq-eqb, cond}
+use Rattle.std.proofs.Common.{◌≡◌, ℕ, zero, suc, true, false, not, List, [], ◌∷◌, ◌++◌, Option, Some, None, sym, refl, ap, ◌∙◌, subst, inl, ⊎_elim, arith, true≢false, eq-eqb, cond}
 use Rattle.std.proofs.lemmas.List.{append-nil}
 use mathlib.Core.Option.{none, some, some-injective, some-ne-none}
 use mathlib.Core.Logic.{dite}
-use mathlib.Core.List.{IsPrefix}
 use native.Mathlib.Decide.{ℕ_discrete}
 use lib.ListN.{get_elem?}
-use Rattle.atomic_table.specs.Table.{State, Me, opening, Final, Seen}
+use Rattle.atomic_table.specs.Table.{State, opening, Final, Seen}
 use Rattle.rad_turn.specs.declared.view.View.{View}
 use Rattle.rad_turn.specs.Names.{is_out}
 use Rattle.rad_turn.specs.Seats.{is_idle, view_of}
@@ -14,7 +13,6 @@ use Rattle.rad_turn.specs.Views.{entries_of, beginner, Stood}
 use Rattle.rad_turn.specs.Kept.{Sits, Fits, IsFree, IsTaken, Kept}
 use Rattle.rad_turn.proofs.Lists.{behind_none, not_nil, not_on, and_left}
 use Rattle.rad_turn.proofs.Sitting.{one_seat, first_place, some_is}
-use Rattle.rad_turn.proofs.Having.{has_view}
 
 -- where no name has an entry, there is none
 pub no_entries : {E : Type 0} (by : E → ℕ) (es : List E) → ((k : ℕ) → entries_of by k es ≡ []) → es ≡ []
@@ -72,17 +70,17 @@ module _ {S E O B : Type 0} (stands : S → List E → Type 0) (origin : S → O
       let here : id ≡ 0 = first_place by r.log r.out r.from r.beginning id v r.rising f first_one in
       let first = f.first here in
       dite (ℕ_discrete taken.holder 0)
-          (λ e. let same : v ≡ taken.view = one_seat s.views id v taken.view at (subst (λ (i : ℕ). Sits s.views i taken.view) (e ∙ sym here) taken.sits) in
-              true≢false (sym taken.holds ∙ (ap (λ (u : View E O B). u.holds) (sym same) ∙ off)))
-          (λ ne. true≢false (sym ((r.each taken.holder taken.view taken.sits).other ne) ∙ ap (is_out taken.view.name) (sym first.1 ∙ alone)))
+      (λ e. let same : v ≡ taken.view = one_seat s.views id v taken.view at (subst (λ (i : ℕ). Sits s.views i taken.view) (e ∙ sym here) taken.sits) in
+      true≢false (sym taken.holds ∙ (ap (λ (u : View E O B). u.holds) (sym same) ∙ off)))
+      (λ ne. true≢false (sym ((r.each taken.holder taken.view taken.sits).other ne) ∙ ap (is_out taken.view.name) (sym first.1 ∙ alone)))
 
   closes_at : (id : ℕ) (v : View E O B) (words : List ℕ) (xs : List S) (y : S) → v.name ≡ 0 → v.out ≡ [] → v.holds ≡ false → Final (Seen (Kept stands origin by) id (Some v)) words xs → get_elem? xs 0 ≡ some y
       → Stood stands origin v.origin v.seen y
   closes_at id v words xs y first_one alone off last there = let s = last.0 in let r = last.1.0 in let at = last.1.1 in ⊎_elim
       (λ (free : IsFree stands origin r.log r.from s).
-          let same : free.value ≡ y = some-injective free.value y (sym (last.4 0 free.value (ap (λ (h : List (mathlib.Core.Option.Option S)). get_elem? h 0) free.home)) ∙ there) in
-          subst (λ (z : S × List E). Stood stands origin v.origin z.1 z.0) (λ i. (same i, sym (whole s r id v at first_one alone) i))
-              record { state = free.stood.state; whence = free.stood.whence ∙ sym (r.each id v at).origin })
+      let same : free.value ≡ y = some-injective free.value y (sym (last.4 0 free.value (ap (λ (h : List (mathlib.Core.Option.Option S)). get_elem? h 0) free.home)) ∙ there) in
+      subst (λ (z : S × List E). Stood stands origin v.origin z.1 z.0) (λ i. (same i, sym (whole s r id v at first_one alone) i))
+      record { state = free.stood.state; whence = free.stood.whence ∙ sym (r.each id v at).origin })
       (λ (taken : IsTaken r.log s). absurd (nobody s r taken id v at first_one alone off))
       r.desk
 

@@ -1,11 +1,10 @@
 -- The steps of a turn, put together.
-use Rattle.std.proofs.Common.{◌≡◌, ℕ, zero, suc, ◌+◌, ◌^◌, ◌<◌, ◌==◌, Bool, true, false, not, ◌&&◌, List, [], ◌∷◌, ◌++◌, length, get_or, Option, Some, None, sym, refl, ap, ◌∙◌, subst, arith, true≢false}
-use mathlib.Core.List.{IsPrefix}
+use Rattle.std.proofs.Common.{◌≡◌, ℕ, true, false, not, List, [], ◌∷◌, ◌++◌, length, get_or, Option, Some, None, sym, refl, ap, ◌∙◌, subst, arith, true≢false}
 use Rattle.atomic_table.specs.Table.{Me}
 use Rattle.rad_turn.specs.declared.view.View.{View}
 use Rattle.rad_turn.specs.Seats.{is_idle, view_of, name_of, out_of}
-use Rattle.rad_turn.specs.Views.{entries_of, Learns, Stood, IsSameSeat}
-use Rattle.rad_turn.specs.Told.{Ends, SeesEnd, Holds, HasValue, Changes, Releases, gave_as}
+use Rattle.rad_turn.specs.Views.{Stood, IsSameSeat}
+use Rattle.rad_turn.specs.Told.{Holds, HasValue, Changes, Releases, gave_as}
 use Rattle.rad_turn.specs.Turned.{MayFollow, Turned}
 use Rattle.rad_turn.proofs.Lists.{entries_of_own, and_right}
 use Rattle.rad_turn.proofs.Sitting.{some_is}
@@ -107,4 +106,4 @@ module _ {S M R E O B : Type 0} (stands : S → List E → Type 0) (origin : S �
     pub same_seat : (last : Me S (Option (View E O B))) (h : is_idle last.0 ≡ true) → ((u : View E O B) → m'.0 ≡ Some u → gave_as (entry was before reply after new ∷ []) u last) → IsSameSeat v (view_of last.0 h)
     same_seat last h gave =
         subst (λ (w : View E O B). IsSameSeat v w) (sym (view_is last.0 h (after_turn v has.0 (entry old before reply after new)) (ap (λ (k : Me S (Option (View E O B))). k.0) (turn_leaves last gave))))
-            record { name = refl; out = refl; origin = refl; beginning = refl }
+        record { name = refl; out = refl; origin = refl; beginning = refl }

@@ -1,5 +1,5 @@
 -- The least name that isn't out, and names that come and leave.
-use Rattle.std.proofs.Common.{◌≡◌, ◌≢◌, ℕ, zero, suc, ◌+◌, ◌-◌, ◌<◌, ◌≤◌, ◌==◌, nat_lt, eqb, ltb, Bool, true, false, cond, not, ◌&&◌, ◌||◌, List, [], ◌∷◌, ◌++◌, length, take, drop, insert, filter, if◌then◌else◌, sym, refl, ap, ◌∙◌, subst, arith, eqb-true, eq-eqb, ne_eqb, ltb-true, ltb-false, lt-ltb, le-ltb, true≢false, get_or, drop-cons, add-one}
+use Rattle.std.proofs.Common.{◌≡◌, ◌≢◌, ℕ, suc, ◌+◌, ◌-◌, ◌<◌, ◌≤◌, ◌==◌, nat_lt, Bool, true, false, ◌&&◌, ◌||◌, List, [], ◌∷◌, ◌++◌, length, take, drop, insert, if◌then◌else◌, sym, refl, ap, ◌∙◌, subst, arith, eq-eqb, ne_eqb, ltb-true, lt-ltb, le-ltb, true≢false, get_or, drop-cons, add-one}
 use mathlib.Core.Logic.{dite}
 use native.Mathlib.Decide.{ℕ_discrete, dec_le}
 use Rattle.rad_turn.specs.Names.{is_out, is_rising, free_from, least_free, with_name, without_name, IsLeastFree}
@@ -41,8 +41,8 @@ free_taken low x xs name here f = let above = f.above in let near = f.near in re
   free = ap (λ b. b || is_out name xs) (ne_eqb x name (λ e. omega (arith, e))) ∙ f.free;
   least = λ k low_k k_name. dite (ℕ_discrete x k) (λ e. ap (λ b. b || is_out k xs) (eq-eqb x k e)) (λ ne. either_true (x == k) (is_out k xs) (f.least k (omega arith) k_name));
   place =
-    ap (λ b. if b then name ∷ x ∷ xs else x ∷ with_name name xs) (le-ltb name x (omega arith))
-        ∙ (ap (λ (l : List ℕ). x ∷ l) f.place ∙ ap (λ (n : ℕ). take n (x ∷ xs) ++ name ∷ drop n (x ∷ xs)) (let e : suc (name - (x + 1)) ≡ name - (low + 1) = omega arith in e));
+      ap (λ b. if b then name ∷ x ∷ xs else x ∷ with_name name xs) (le-ltb name x (omega arith))
+      ∙ (ap (λ (l : List ℕ). x ∷ l) f.place ∙ ap (λ (n : ℕ). take n (x ∷ xs) ++ name ∷ drop n (x ∷ xs)) (let e : suc (name - (x + 1)) ≡ name - (low + 1) = omega arith in e));
 }
 
 free_gap : (low x : ℕ) (xs : List ℕ) → low + 1 < x → is_rising x xs ≡ true → FreeFrom low (x ∷ xs) (low + 1)
@@ -52,8 +52,8 @@ free_gap low x xs gap rest = record {
   free = ap (λ b. b || is_out (low + 1) xs) (ne_eqb x (low + 1) (λ e. omega (arith, e))) ∙ low_not_out (low + 1) x xs (omega arith) rest;
   least = λ k low_k k_name. absurd (omega arith);
   place =
-    ap (λ b. if b then (low + 1) ∷ x ∷ xs else x ∷ with_name (low + 1) xs) (lt-ltb (low + 1) x gap)
-        ∙ ap (λ (n : ℕ). take n (x ∷ xs) ++ (low + 1) ∷ drop n (x ∷ xs)) (let e : 0 ≡ (low + 1) - (low + 1) = omega arith in e);
+      ap (λ b. if b then (low + 1) ∷ x ∷ xs else x ∷ with_name (low + 1) xs) (lt-ltb (low + 1) x gap)
+      ∙ ap (λ (n : ℕ). take n (x ∷ xs) ++ (low + 1) ∷ drop n (x ∷ xs)) (let e : 0 ≡ (low + 1) - (low + 1) = omega arith in e);
 }
 
 free_spec : (low : ℕ) (out : List ℕ) → is_rising low out ≡ true → FreeFrom low out (free_from (low + 1) out)
@@ -69,12 +69,12 @@ free_spec low (x ∷ xs) up =
     let rest : is_rising x xs ≡ true = and_right (nat_lt low x) (is_rising x xs) up in
     let next = free_spec x xs rest in
     dite (ℕ_discrete x (low + 1))
-        (λ here. subst (λ (n : ℕ). FreeFrom low (x ∷ xs) n)
-            (ap (λ (n : ℕ). free_from (n + 1) xs) here ∙ sym (ap (λ b. free_from (if b then low + 1 + 1 else low + 1) xs) (eq-eqb x (low + 1) here)))
-            (free_taken low x xs (free_from (x + 1) xs) here next))
-        (λ other. subst (λ (n : ℕ). FreeFrom low (x ∷ xs) n)
-            (sym (ap (λ b. free_from (if b then low + 1 + 1 else low + 1) xs) (ne_eqb x (low + 1) other) ∙ free_here (low + 1) x xs (omega arith) rest))
-            (free_gap low x xs (omega arith) rest))
+    (λ here. subst (λ (n : ℕ). FreeFrom low (x ∷ xs) n)
+    (ap (λ (n : ℕ). free_from (n + 1) xs) here ∙ sym (ap (λ b. free_from (if b then low + 1 + 1 else low + 1) xs) (eq-eqb x (low + 1) here)))
+    (free_taken low x xs (free_from (x + 1) xs) here next))
+    (λ other. subst (λ (n : ℕ). FreeFrom low (x ∷ xs) n)
+    (sym (ap (λ b. free_from (if b then low + 1 + 1 else low + 1) xs) (ne_eqb x (low + 1) other) ∙ free_here (low + 1) x xs (omega arith) rest))
+    (free_gap low x xs (omega arith) rest))
 
 pub least_is : (out : List ℕ) → is_rising 0 out ≡ true → IsLeastFree (least_free out) out
 least_is out up = let f = free_spec 0 out up in record { positive = f.above; free = f.free; least = f.least }
@@ -124,10 +124,10 @@ with_rising low name (x ∷ xs) up above free =
     let other : x ≢ name = λ e. true≢false (sym (eq-eqb x name e) ∙ or_left (x == name) (is_out name xs) free) in
     let next = with_rising x name xs rest in
     dite (dec_lt name x)
-        (λ less. ap (λ b. is_rising low (if b then name ∷ x ∷ xs else x ∷ with_name name xs)) (lt-ltb name x less)
-            ∙ both_true (nat_lt low name) (is_rising name (x ∷ xs)) (lt-ltb low name above) (both_true (nat_lt name x) (is_rising x xs) (lt-ltb name x less) rest))
-        (λ more. ap (λ b. is_rising low (if b then name ∷ x ∷ xs else x ∷ with_name name xs)) (le-ltb name x (omega arith))
-            ∙ both_true (nat_lt low x) (is_rising x (with_name name xs)) (lt-ltb low x above_x) (next (omega arith) (or_right (x == name) (is_out name xs) free)))
+    (λ less. ap (λ b. is_rising low (if b then name ∷ x ∷ xs else x ∷ with_name name xs)) (lt-ltb name x less)
+    ∙ both_true (nat_lt low name) (is_rising name (x ∷ xs)) (lt-ltb low name above) (both_true (nat_lt name x) (is_rising x xs) (lt-ltb name x less) rest))
+    (λ more. ap (λ b. is_rising low (if b then name ∷ x ∷ xs else x ∷ with_name name xs)) (le-ltb name x (omega arith))
+    ∙ both_true (nat_lt low x) (is_rising x (with_name name xs)) (lt-ltb low x above_x) (next (omega arith) (or_right (x == name) (is_out name xs) free)))
 
 -- a name that leaves isn't out, and the others are as they were
 pub without_out : (k name : ℕ) (out : List ℕ) → k ≢ name → is_out k (without_name name out) ≡ is_out k out
@@ -142,7 +142,7 @@ without_rising low name (x ∷ xs) up =
     let above : low < x = ltb-true low x (and_left (nat_lt low x) (is_rising x xs) up) in
     let rest : is_rising x (without_name name xs) ≡ true = without_rising x name xs (and_right (nat_lt low x) (is_rising x xs) up) in
     dite (ℕ_discrete x name) (λ here. rw (eq-eqb x name here) (rising_from low x (without_name name xs) (omega arith) rest))
-        (λ other. rw (ne_eqb x name other) (both_true (nat_lt low x) (is_rising x (without_name name xs)) (lt-ltb low x above) rest))
+    (λ other. rw (ne_eqb x name other) (both_true (nat_lt low x) (is_rising x (without_name name xs)) (lt-ltb low x above) rest))
 
 if_bound : (b : Bool) (n m next : ℕ) → n ≤ m → next ≡ (if b then n + 1 else n) → next ≤ m + 1
 if_bound true n m next le e = omega arith

@@ -1,21 +1,21 @@
 -- Seats that come and go keep the rule.
-use Rattle.std.proofs.Common.{◌≡◌, ◌≢◌, ℕ, zero, suc, ◌+◌, ◌^◌, ◌<◌, ◌≤◌, ◌==◌, Bool, true, false, not, List, [], ◌∷◌, ◌++◌, length, get_or, set, All, Option, Some, None, sym, refl, ap, ◌∙◌, subst, inl, inr, ⊎_elim, ◌⊎◌, arith, true≢false}
+use Rattle.std.proofs.Common.{◌≡◌, ◌≢◌, ℕ, zero, suc, Bool, true, false, List, [], ◌∷◌, ◌++◌, length, set, All, Option, Some, None, sym, refl, ap, ◌∙◌, subst, inl, inr, ⊎_elim, ◌⊎◌, arith, true≢false}
 use mathlib.Core.Option.{none, some, some-injective, some-ne-none}
 use mathlib.Core.Logic.{dite}
 use mathlib.Core.List.{IsPrefix}
 use native.Mathlib.Decide.{ℕ_discrete, dec_le}
 use lib.ListN.{get_elem?}
 use lib.Seq.{set-get_or}
-use Rattle.atomic_table.specs.Table.{State, Me, step, keeps, stepped, Allows, Splits, Joins}
+use Rattle.atomic_table.specs.Table.{State, step, keeps, Allows, Splits, Joins}
 use Rattle.atomic_table.proofs.Lists.{at_set, set_else, at_longer}
 use Rattle.rad_turn.specs.declared.view.View.{View}
-use Rattle.rad_turn.specs.Names.{is_out, is_rising, least_free, with_name, without_name, IsLeastFree}
-use Rattle.rad_turn.specs.Views.{entries_of, Learns, Stood}
+use Rattle.rad_turn.specs.Names.{is_out, least_free, with_name, without_name, IsLeastFree}
+use Rattle.rad_turn.specs.Views.{entries_of}
 use Rattle.rad_turn.specs.Kept.{Sits, Fits, Joining, IsFree, IsTaken, Kept}
 use Rattle.rad_turn.specs.Told.{cut_left, cut_right, glued, Takes, TakesIn, settled}
 use Rattle.rad_turn.proofs.Lists.{not_true, behind_none, all_out, alone_sees, squeeze, prefix_self, prefix_shorter}
 use Rattle.rad_turn.proofs.Naming.{least_is, with_keeps, with_has, with_rising, without_out, without_rising}
-use Rattle.rad_turn.proofs.Sitting.{set_at, some_is, one_seat, each_set, named_before, apart_set, first_place}
+use Rattle.rad_turn.proofs.Sitting.{some_is, one_seat, each_set, named_before, apart_set, first_place}
 
 module _ {E O B : Type 0} where
   pub sits_none : (views : List (Option (View E O B))) (gone i : ℕ) (u : View E O B) → Sits (set views gone None) i u → (i ≢ gone) × Sits views i u
@@ -100,9 +100,13 @@ module _ {S E O B : Type 0} (stands : S → List E → Type 0) (origin : S → O
                 mine = squeeze by v.name v.seen seen r.log mine within f.mine;
                 origin = f.origin;
                 beginning = f.beginning;
-                first = λ _. (first.0, ap (without_name v.guest) first.1, λ k free. dite (ℕ_discrete k v.guest)
-                    (λ is. subst (λ (k : ℕ). entries_of by k r.log ≡ entries_of by k seen) (sym is) (squeeze by v.guest v.told seen r.log told within joining.all))
-                    (λ ne. squeeze by k v.seen seen r.log mine within (first.2 k (sym (without_out k v.guest r.out ne) ∙ free))));
+                first = λ _. (
+                  first.0,
+                  ap (without_name v.guest) first.1,
+                  λ k free. dite (ℕ_discrete k v.guest)
+                      (λ is. subst (λ (k : ℕ). entries_of by k r.log ≡ entries_of by k seen) (sym is) (squeeze by v.guest v.told seen r.log told within joining.all))
+                      (λ ne. squeeze by k v.seen seen r.log mine within (first.2 k (sym (without_out k v.guest r.out ne) ∙ free))),
+                );
                 other = λ ne. absurd (ne here);
               })
               (λ i u ne there. let g = r.each i u there in record {
@@ -145,10 +149,10 @@ module _ {S E O B : Type 0} (stands : S → List E → Type 0) (origin : S → O
       let f = r.each id v at in
       let joining = r.joining v (subst (λ (i : ℕ). Sits s.views i v) (here s r id v at off named) at) on in
       dite (dec_le (length v.told) (length v.seen))
-          (λ less. let told = prefix_shorter v.told v.seen r.log joining.told f.seen less in
-              (v.seen, settles_at s r id v at off named on v.seen (prefix_self v.seen) told f.seen, takes_at s r id v at off named on v.seen (prefix_self v.seen) told f.seen (inl refl)))
-          (λ more. let mine = prefix_shorter v.seen v.told r.log f.seen joining.told (omega arith) in
-              (v.told, settles_at s r id v at off named on v.told mine (prefix_self v.told) joining.told, takes_at s r id v at off named on v.told mine (prefix_self v.told) joining.told (inr refl)))
+      (λ less. let told = prefix_shorter v.told v.seen r.log joining.told f.seen less in
+      (v.seen, settles_at s r id v at off named on v.seen (prefix_self v.seen) told f.seen, takes_at s r id v at off named on v.seen (prefix_self v.seen) told f.seen (inl refl)))
+      (λ more. let mine = prefix_shorter v.seen v.told r.log f.seen joining.told (omega arith) in
+      (v.told, settles_at s r id v at off named on v.told mine (prefix_self v.told) joining.told, takes_at s r id v at off named on v.told mine (prefix_self v.told) joining.told (inr refl)))
 
   pub settles : (slots id : ℕ) (v : View E O B) (c : List (ℕ × S)) → v.holds ≡ false → v.name ≡ 0 → v.joins ≡ true
       → Allows (Kept stands origin by) slots id (Some v, c) 0 (λ x. x) (settled {S = S} {E = E} {O = O} {B = B} by (step slots 0 0 0 none) (Some v, c))
@@ -206,8 +210,8 @@ module _ {S E O B : Type 0} (stands : S → List E → Type 0) (origin : S → O
       let free_before : (k : ℕ) → is_out k out ≡ false → is_out k r.out ≡ false = λ k free. not_true (is_out k r.out) (λ on. true≢false (sym (with_keeps k name r.out on) ∙ free)) in
       let positive = least.positive in
       let known : (i : ℕ) (u : View E O B) → Sits views i u → u.name ≢ name =
-          each_set (λ i u. u.name ≢ name) s.views id w (λ e. let z : v.name ≡ 0 = named in omega (arith, e, z))
-              (λ i u ne there e. true≢false (sym ((r.each i u there).other (λ z. ne (z ∙ sym first_here))) ∙ (ap (λ (k : ℕ). is_out k r.out) e ∙ least.free))) in record {
+      each_set (λ i u. u.name ≢ name) s.views id w (λ e. let z : v.name ≡ 0 = named in omega (arith, e, z))
+      (λ i u ne there e. true≢false (sym ((r.each i u there).other (λ z. ne (z ∙ sym first_here))) ∙ (ap (λ (k : ℕ). is_out k r.out) e ∙ least.free))) in record {
         log = r.log;
         out = out;
         from = r.from;
@@ -216,23 +220,23 @@ module _ {S E O B : Type 0} (stands : S → List E → Type 0) (origin : S → O
         rising = with_rising 0 name r.out r.rising positive least.free;
         each = λ i u sits. ⊎_elim
             (λ (t : Sits views i u). each_set (Fits by r.log out r.from r.beginning) s.views id w
-                (record {
-                  seen = f.seen;
-                  mine = f.mine;
-                  origin = f.origin;
-                  beginning = f.beginning;
-                  first = λ _. (first.0, ap (with_name name) first.1, λ k free. first.2 k (free_before k free));
-                  other = λ ne. absurd (ne first_here);
-                })
-                (λ i u ne there. let g = r.each i u there in record {
-                  seen = g.seen;
-                  mine = g.mine;
-                  origin = g.origin;
-                  beginning = g.beginning;
-                  first = λ z. absurd (ne (z ∙ sym first_here));
-                  other = λ nz. with_keeps u.name name r.out (g.other nz);
-                })
-                i u t)
+            (record {
+              seen = f.seen;
+              mine = f.mine;
+              origin = f.origin;
+              beginning = f.beginning;
+              first = λ _. (first.0, ap (with_name name) first.1, λ k free. first.2 k (free_before k free));
+              other = λ ne. absurd (ne first_here);
+            })
+            (λ i u ne there. let g = r.each i u there in record {
+              seen = g.seen;
+              mine = g.mine;
+              origin = g.origin;
+              beginning = g.beginning;
+              first = λ z. absurd (ne (z ∙ sym first_here));
+              other = λ nz. with_keeps u.name name r.out (g.other nz);
+            })
+            i u t)
             (λ (t : (i ≡ length views) × (x ≡ u)). subst (λ (z : View E O B). Fits by r.log out r.from r.beginning i z) t.1 record {
               seen = f.seen;
               mine = first.2 name least.free;
@@ -244,13 +248,13 @@ module _ {S E O B : Type 0} (stands : S → List E → Type 0) (origin : S → O
             (sits_more views x i u sits);
         apart = λ i j y z aty atz e. ⊎_elim
             (λ (a : Sits views i y). ⊎_elim
-                (λ (b : Sits views j z). apart_set s.views id v w at refl r.apart i j y z a b e)
-                (λ (b : (j ≡ length views) × (x ≡ z)). absurd (known i y a (e ∙ ap (λ (q : View E O B). q.name) (sym b.1))))
-                (sits_more views x j z atz))
+            (λ (b : Sits views j z). apart_set s.views id v w at refl r.apart i j y z a b e)
+            (λ (b : (j ≡ length views) × (x ≡ z)). absurd (known i y a (e ∙ ap (λ (q : View E O B). q.name) (sym b.1))))
+            (sits_more views x j z atz))
             (λ (a : (i ≡ length views) × (x ≡ y)). ⊎_elim
-                (λ (b : Sits views j z). absurd (known j z b (sym e ∙ ap (λ (q : View E O B). q.name) (sym a.1))))
-                (λ (b : (j ≡ length views) × (x ≡ z)). a.0 ∙ sym b.0)
-                (sits_more views x j z atz))
+            (λ (b : Sits views j z). absurd (known j z b (sym e ∙ ap (λ (q : View E O B). q.name) (sym a.1))))
+            (λ (b : (j ≡ length views) × (x ≡ z)). a.0 ∙ sym b.0)
+            (sits_more views x j z atz))
             (sits_more views x i y aty);
         joining = λ u sits on. ⊎_elim
             (λ (t : Sits views 0 u). absurd (true≢false (sym on ∙ each_set (λ i u. i ≡ 0 → u.joins ≡ false) s.views id w (λ _. alone) (λ i u ne _ z. absurd (ne (z ∙ sym first_here))) 0 u t refl)))

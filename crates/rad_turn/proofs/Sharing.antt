@@ -1,18 +1,15 @@
 -- A split and a join, put together.
-use Rattle.std.proofs.Common.{◌≡◌, ℕ, ◌+◌, ◌^◌, ◌<◌, Bool, true, false, not, ◌&&◌, List, [], ◌∷◌, ◌++◌, length, Option, Some, None, sym, refl, ap, ◌∙◌, subst, arith, true≢false}
-use mathlib.Core.List.{IsPrefix}
+use Rattle.std.proofs.Common.{◌≡◌, ℕ, true, false, not, List, [], Option, Some, None, sym, refl, ap, ◌∙◌, subst, true≢false}
 use mathlib.Core.Option.{none}
 use Rattle.atomic_table.specs.Table.{Me, step, Allows, Splits, Joins as JoinsAt}
 use Rattle.rad_turn.specs.declared.view.View.{View}
 use Rattle.rad_turn.specs.Names.{is_rising, least_free, with_name, without_name}
 use Rattle.rad_turn.specs.Seats.{is_idle, view_of, name_of, out_of}
-use Rattle.rad_turn.specs.Views.{entries_of, Learns}
 use Rattle.rad_turn.specs.Kept.{Kept}
 use Rattle.rad_turn.specs.Told.{cut_left, cut_right, glued, Takes, TakesIn, settled}
 use Rattle.rad_turn.specs.Seated.{Parts, Joins}
 use Rattle.rad_turn.proofs.Lists.{and_left, and_right, not_on}
 use Rattle.rad_turn.proofs.Naming.{least_is, both_true}
-use Rattle.rad_turn.proofs.Sitting.{some_is}
 use Rattle.rad_turn.proofs.Seating.{cuts, glues, settles}
 use Rattle.rad_turn.proofs.Having.{view_is}
 
@@ -98,4 +95,4 @@ module _ {S E O B : Type 0} (stands : S → List E → Type 0) (origin : S → O
   settles_glued slots id (Some v) None c m hk hl named is = absurd (true≢false (sym hl))
   settles_glued slots id (Some v) (Some w) c m hk hl named is =
       subst (λ (m : Me S (Option (View E O B))). Allows (Kept stands origin by) slots id m 0 (λ x. x) (settled {S = S} {E = E} {O = O} {B = B} by (step slots 0 0 0 none) m)) (sym is)
-          (settles stands origin by slots id (record v { joins = true; guest = w.name; told = w.seen }) c (off_of v hk) named refl)
+      (settles stands origin by slots id (record v { joins = true; guest = w.name; told = w.seen }) c (off_of v hk) named refl)

@@ -1,7 +1,7 @@
 -- Seats whose view changes, and what a seat learns.
-use Rattle.std.proofs.Common.{◌≡◌, ◌≢◌, ℕ, zero, suc, ◌+◌, ◌<◌, ◌≤◌, ◌==◌, Bool, true, false, not, ◌&&◌, List, [], ◌∷◌, ◌++◌, length, set, All, Option, Some, None, sym, refl, ap, ◌∙◌, subst, ⊎_elim, arith, true≢false, unwrap_or, eqb-true}
+use Rattle.std.proofs.Common.{◌≡◌, ◌≢◌, ℕ, zero, suc, Bool, true, false, not, List, [], ◌∷◌, ◌++◌, set, All, Option, Some, None, sym, refl, ap, ◌∙◌, subst, ⊎_elim, arith, true≢false, unwrap_or}
 use Rattle.std.proofs.lemmas.List.{append-nil}
-use mathlib.Core.Option.{none, some, some-injective, some-ne-none}
+use mathlib.Core.Option.{some, some-injective, some-ne-none}
 use mathlib.Core.Logic.{dite}
 use mathlib.Core.List.{IsPrefix}
 use native.Mathlib.Decide.{ℕ_discrete}
@@ -59,7 +59,7 @@ module _ {E O B : Type 0} where
   learns by log out o b place v up f =
       let between : List E = f.seen.0 in let is : v.seen ++ between ≡ log = f.seen.1 in
       let others : v.name ≡ 0 → All (λ e. is_out (by e) v.out ≡ true) between = λ named. let first = f.first (first_place by log out o b place v up f named) in
-          all_out by v.out between (λ k free. behind_none by k v.seen between (ap (entries_of by k) is ∙ first.2 k (sym (ap (is_out k) first.1) ∙ free))) in record {
+      all_out by v.out between (λ k free. behind_none by k v.seen between (ap (entries_of by k) is ∙ first.2 k (sym (ap (is_out k) first.1) ∙ free))) in record {
         between = between;
         is = sym is;
         mine = f.mine;

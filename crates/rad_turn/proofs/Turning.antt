@@ -1,5 +1,5 @@
 -- Each step of a turn keeps the rule.
-use Rattle.std.proofs.Common.{◌≡◌, ◌≢◌, ℕ, zero, suc, ◌+◌, ◌*◌, ◌%◌, ◌^◌, ◌<◌, ◌≤◌, ◌==◌, eqb, Bool, true, false, List, [], ◌∷◌, ◌++◌, length, get_or, set, All, Option, Some, None, sym, refl, ap, ◌∙◌, subst, inl, inr, ⊎_elim, ◌⊎◌, arith, true≢false, length-append, append_assoc}
+use Rattle.std.proofs.Common.{◌≡◌, ◌≢◌, ℕ, ◌+◌, ◌*◌, ◌%◌, ◌^◌, ◌<◌, eqb, true, false, List, [], ◌∷◌, ◌++◌, length, get_or, set, Option, Some, sym, refl, ap, ◌∙◌, subst, inl, inr, ⊎_elim, arith, true≢false, length-append, append_assoc}
 use Rattle.std.proofs.lemmas.List.{append-nil}
 use mathlib.Core.Option.{none, some}
 use mathlib.Core.Logic.{dite}
@@ -8,12 +8,12 @@ use native.Mathlib.Decide.{ℕ_discrete}
 use lib.ListN.{get_elem?}
 use lib.Seq.{set-get_or}
 use prog.Atomic.{either}
-use Rattle.atomic_table.specs.Table.{State, Me, step, keeps, takes, gives, stepped, rest, Allows}
+use Rattle.atomic_table.specs.Table.{State, Me, step, keeps, takes, gives, stepped, Allows}
 use Rattle.atomic_table.proofs.Lists.{set_again, exchanged}
 use Rattle.rad_turn.specs.declared.view.View.{View}
 use Rattle.rad_turn.specs.Names.{is_out}
 use Rattle.rad_turn.specs.Seats.{is_idle}
-use Rattle.rad_turn.specs.Views.{entries_of, Learns, Stood}
+use Rattle.rad_turn.specs.Views.{entries_of, Stood}
 use Rattle.rad_turn.specs.Kept.{Sits, Fits, IsFree, IsTaken, Kept}
 use Rattle.rad_turn.specs.Told.{SeesEnd, Ends, looked, HasValue, Holds, took, gave_as, gave, Releases}
 use Rattle.rad_turn.proofs.Lists.{not_true, entries_of_behind}
@@ -35,7 +35,7 @@ module _ {S E O B : Type 0} (stands : S → List E → Type 0) (origin : S → O
       → Kept stands origin by (stepped s 0 (get_or s.words 0 0) id c (Some v) keeps)
   unmoved s id v c r at =
       subst (λ (x : List ℕ × List (Option (View E O B))). Kept stands origin by record { words = x.0; homes = s.homes; views = x.1 })
-          (λ i. (sym (set-get_or s.words 0 0) i, sym (set_again s.views id (Some v) at) i)) r
+      (λ i. (sym (set-get_or s.words 0 0) i, sym (set_again s.views id (Some v) at) i)) r
 
   -- a seat sees the whole history at a free desk
   sees : (s : State S (Option (View E O B))) (id : ℕ) (v : View E O B) (c : List (ℕ × S)) (r : Kept stands origin by s) → IsFree stands origin r.log r.from s → Sits s.views id v
@@ -67,15 +67,15 @@ module _ {S E O B : Type 0} (stands : S → List E → Type 0) (origin : S → O
       → Ends stands origin by (Some v, c) (Some (record v { seen = r.log }), c)
   ends s r id v c at free long v' is =
       subst (λ (u : View E O B). SeesEnd stands origin by u c (Some (record v { seen = r.log }), c)) (some_is v v' is)
-          (r.log, refl, learns by r.log r.out r.from r.beginning id v r.rising (r.each id v at), long, (free.value, stood_as s r id v free.value at free.stood))
+      (r.log, refl, learns by r.log r.out r.from r.beginning id v r.rising (r.each id v at), long, (free.value, stood_as s r id v free.value at free.stood))
 
   pub looks : (slots id : ℕ) (v : View E O B) (c : List (ℕ × S)) → Allows (Kept stands origin by) slots id (Some v, c) 0 (λ x. x) (looked stands origin by (step slots 0 0 0 none) (Some v, c))
   looks slots id v c s r wide at small = dite (ℕ_discrete (get_or s.words 0 0) (2 ^ 63))
       (λ worn. ⊎_elim
-          (λ (free : IsFree stands origin r.log r.from s). let n = word_is s.words (2 * length r.log) free.word in let long : length r.log ≡ 2 ^ 62 = omega arith in
-              (Some (record v { seen = r.log }), keeps, tt, sees s id v c r free at, ((λ ne. absurd (ne worn)), λ _. ends s r id v c at free long)))
-          (λ (taken : IsTaken r.log s). let n = word_is s.words (2 * length r.log + 1) taken.word in absurd (omega arith))
-          r.desk)
+      (λ (free : IsFree stands origin r.log r.from s). let n = word_is s.words (2 * length r.log) free.word in let long : length r.log ≡ 2 ^ 62 = omega arith in
+      (Some (record v { seen = r.log }), keeps, tt, sees s id v c r free at, ((λ ne. absurd (ne worn)), λ _. ends s r id v c at free long)))
+      (λ (taken : IsTaken r.log s). let n = word_is s.words (2 * length r.log + 1) taken.word in absurd (omega arith))
+      r.desk)
       (λ other. (Some v, keeps, tt, unmoved s id v c r at, ((λ _. refl), λ worn. absurd (other worn))))
 
   pub looks_idle : (slots id : ℕ) (me : Me S (Option (View E O B))) → is_idle me.0 ≡ true → Allows (Kept stands origin by) slots id me 0 (λ x. x) (looked stands origin by (step slots 0 0 0 none) me)
@@ -111,22 +111,22 @@ module _ {S E O B : Type 0} (stands : S → List E → Type 0) (origin : S → O
       → Holds stands origin by (Some v, c) (Some (record v { seen = r.log; holds = true }), (0, free.value) ∷ c)
   grasps s r free id v c at short v' is =
       subst (λ (u : View E O B). HasValue stands origin by u c (Some (record v { seen = r.log; holds = true }), (0, free.value) ∷ c)) (some_is v v' is)
-          (r.log, free.value, refl, learns by r.log r.out r.from r.beginning id v r.rising (r.each id v at), short, stood_as s r id v free.value at free.stood)
+      (r.log, free.value, refl, learns by r.log r.out r.from r.beginning id v r.rising (r.each id v at), short, stood_as s r id v free.value at free.stood)
 
   pub grabs : (slots id : ℕ) (v : View E O B) (c : List (ℕ × S)) (old new : ℕ) → old % 2 ≡ 0 → old ≢ 2 ^ 63 → new ≡ old + 1
       → Allows (Kept stands origin by) slots id (Some v, c) 0 (λ x. either (eqb x old) new x) (took stands origin by (step slots 0 old new none) (Some v, c))
   grabs slots id v c old new even some_left up s r wide at small = dite (ℕ_discrete (get_or s.words 0 0) old)
       (λ hit. ⊎_elim
-          (λ (free : IsFree stands origin r.log r.from s). let n = word_is s.words (2 * length r.log) free.word in let bound = r.short in let short : length r.log < 2 ^ 62 = omega arith in (
-            Some (record v { seen = r.log; holds = true }),
-            takes 0 free.value,
-            ap (λ (h : _). get_elem? h 0) free.home,
-            exchanged (get_or s.words 0 0) old new (λ m. Kept stands origin by (stepped s 0 m id c (Some (record v { seen = r.log; holds = true })) (takes 0 free.value)))
-                (λ _. grips s id v c new r free at short (omega arith)) (λ miss. absurd (miss hit)),
-            ((λ miss. absurd (miss hit)), λ _. grasps s r free id v c at short),
-          ))
-          (λ (taken : IsTaken r.log s). let n = word_is s.words (2 * length r.log + 1) taken.word in absurd (omega arith))
-          r.desk)
+      (λ (free : IsFree stands origin r.log r.from s). let n = word_is s.words (2 * length r.log) free.word in let bound = r.short in let short : length r.log < 2 ^ 62 = omega arith in (
+        Some (record v { seen = r.log; holds = true }),
+        takes 0 free.value,
+        ap (λ (h : _). get_elem? h 0) free.home,
+        exchanged (get_or s.words 0 0) old new (λ m. Kept stands origin by (stepped s 0 m id c (Some (record v { seen = r.log; holds = true })) (takes 0 free.value)))
+            (λ _. grips s id v c new r free at short (omega arith)) (λ miss. absurd (miss hit)),
+        ((λ miss. absurd (miss hit)), λ _. grasps s r free id v c at short),
+      ))
+      (λ (taken : IsTaken r.log s). let n = word_is s.words (2 * length r.log + 1) taken.word in absurd (omega arith))
+      r.desk)
       (λ miss. (
         Some v,
         keeps,
@@ -196,20 +196,20 @@ module _ {S E O B : Type 0} (stands : S → List E → Type 0) (origin : S → O
   gives_back slots id v y e on stood own s r wide at small = ⊎_elim
       (λ (free : IsFree stands origin r.log r.from s). absurd (true≢false (sym on ∙ free.idle id v at)))
       (λ (taken : IsTaken r.log s).
-          let held : id ≡ taken.holder = taken.alone id v at on in
-          let there : Sits s.views id taken.view = subst (λ (i : ℕ). Sits s.views i taken.view) (sym held) taken.sits in
-          let same : v ≡ taken.view = one_seat s.views id v taken.view at there in
-          let n = word_is s.words (2 * length r.log + 1) taken.word in let short = taken.short in (
-            Some (record v { seen = v.seen ++ e ∷ []; holds = false }),
-            gives,
-            tt,
-            lays s r taken id v y e ((get_or s.words 0 0 + 1) % 2 ^ 64) at (ap (λ (u : View E O B). u.seen) same ∙ taken.whole) held stood own (omega arith),
-            λ v' is _. subst (λ (u : View E O B). gave_as {S = S} (e ∷ []) u (Some (record v { seen = v.seen ++ e ∷ []; holds = false }), [])) (some_is v v' is) refl,
-          ))
+      let held : id ≡ taken.holder = taken.alone id v at on in
+      let there : Sits s.views id taken.view = subst (λ (i : ℕ). Sits s.views i taken.view) (sym held) taken.sits in
+      let same : v ≡ taken.view = one_seat s.views id v taken.view at there in
+      let n = word_is s.words (2 * length r.log + 1) taken.word in let short = taken.short in (
+        Some (record v { seen = v.seen ++ e ∷ []; holds = false }),
+        gives,
+        tt,
+        lays s r taken id v y e ((get_or s.words 0 0 + 1) % 2 ^ 64) at (ap (λ (u : View E O B). u.seen) same ∙ taken.whole) held stood own (omega arith),
+        λ v' is _. subst (λ (u : View E O B). gave_as {S = S} (e ∷ []) u (Some (record v { seen = v.seen ++ e ∷ []; holds = false }), [])) (some_is v v' is) refl,
+      ))
       r.desk
 
   pub gives_made : (slots id : ℕ) (me : Me S (Option (View E O B))) (entries : List E) (e : E) (y : S) → Releases stands origin by entries me e y
       → Allows (Kept stands origin by) slots id me 0 (λ n. (n + 1) % 2 ^ 64) (gave entries (step slots 0 1 0 none) me)
   gives_made slots id me entries e y r =
       subst (λ (x : Option (View E O B) × List (ℕ × S) × List E). Allows (Kept stands origin by) slots id (x.0, x.1) 0 (λ n. (n + 1) % 2 ^ 64) (gave x.2 (step slots 0 1 0 none) (x.0, x.1)))
-          (λ i. (sym r.knows i, sym r.held i, sym r.made i)) (gives_back slots id r.view y e r.holds r.stood r.named)
+      (λ i. (sym r.knows i, sym r.held i, sym r.made i)) (gives_back slots id r.view y e r.holds r.stood r.named)

@@ -1,5 +1,5 @@
 -- The rule of a desk's table. Its one word is twice the length of the history where the desk is free, and one more where it is taken. Its one slot is the value.
-use Rattle.std.specs.Prelude.{◌≡◌, ◌≢◌, ℕ, ◌+◌, ◌*◌, ◌^◌, ◌<◌, ◌≤◌, Bool, true, false, List, [], ◌∷◌, length, ◌⊎◌, Option, Some, None}
+use Rattle.std.specs.Prelude.{◌≡◌, ◌≢◌, ℕ, ◌+◌, ◌*◌, ◌^◌, ◌<◌, ◌≤◌, true, false, List, [], ◌∷◌, length, ◌⊎◌, Option, Some}
 use mathlib.Core.Option.{none, some}
 use mathlib.Core.List.{IsPrefix}
 use lib.ListN.{get_elem?}

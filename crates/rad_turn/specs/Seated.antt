@@ -1,5 +1,5 @@
 -- What a split and a join leave.
-use Rattle.std.specs.Prelude.{◌≡◌, ℕ, ◌⊎◌, List, []}
+use Rattle.std.specs.Prelude.{◌≡◌, ℕ, ◌⊎◌, []}
 use mathlib.Core.List.{IsPrefix}
 use Rattle.rad_turn.specs.declared.view.View.{View}
 use Rattle.rad_turn.specs.Names.{IsLeastFree, with_name, without_name}

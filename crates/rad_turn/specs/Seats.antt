@@ -17,7 +17,6 @@ abbrev pub out_of : {E O B : Type 0} → Option (View E O B) → List ℕ
 out_of None = []
 out_of (Some v) = v.out
 
-
 -- what an idle seat knows
 abbrev pub view_of : {E O B : Type 0} → (known : Option (View E O B)) → is_idle known ≡ true → View E O B
 view_of None idle = absurd (true≢false (sym idle))

@@ -1,6 +1,6 @@
 -- What each step on the table tells the seat that makes it.
-use Rattle.std.specs.Prelude.{◌≡◌, ◌≢◌, ◌⊎◌, ℕ, ◌+◌, ◌^◌, ◌<◌, Bool, true, false, List, [], ◌∷◌, ◌++◌, length, Option, Some, None}
-use Rattle.atomic_table.specs.Table.{Me, Step, rest}
+use Rattle.std.specs.Prelude.{◌≡◌, ◌≢◌, ◌⊎◌, ℕ, ◌^◌, ◌<◌, true, false, List, [], ◌∷◌, ◌++◌, length, Option, Some, None}
+use Rattle.atomic_table.specs.Table.{Me, Step}
 use Rattle.rad_turn.specs.declared.view.View.{View}
 use mathlib.Core.List.{IsPrefix}
 use Rattle.rad_turn.specs.Names.{least_free, with_name, without_name}

@@ -1,5 +1,5 @@
 -- What a turn asks and leaves.
-use Rattle.std.specs.Prelude.{◌≡◌, ℕ, ◌+◌, ◌^◌, ◌<◌, List, [], ◌∷◌, ◌++◌, length}
+use Rattle.std.specs.Prelude.{◌≡◌, ℕ, ◌^◌, ◌<◌, List, [], ◌∷◌, ◌++◌, length}
 use mathlib.Core.List.{IsPrefix}
 use Rattle.rad_turn.specs.declared.view.View.{View}
 use Rattle.rad_turn.specs.Views.{entries_of, Learns, Stood}

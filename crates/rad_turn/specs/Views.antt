@@ -1,6 +1,5 @@
 -- What a seat knows, and what a call adds to it.
-use Rattle.std.specs.Prelude.{◌≡◌, ℕ, ◌+◌, ◌^◌, ◌<◌, ◌≤◌, ◌==◌, Bool, true, false, not, List, [], ◌∷◌, ◌++◌, length, filter, All, Option, Some, None}
-use mathlib.Core.List.{IsPrefix}
+use Rattle.std.specs.Prelude.{◌≡◌, ℕ, ◌==◌, true, false, List, [], ◌++◌, filter, All}
 use Rattle.rad_turn.specs.declared.view.View.{View}
 use Rattle.rad_turn.specs.Names.{is_out}
 

@@ -37,7 +37,9 @@ impl<S: Stands> Desk<S> {
                 Ok((Desk { table }, seat))
             }
             Err(Refused { mut slots }) => {
-                let Some(value) = slots.pop() else { unreachable!() };
+                let Some(value) = slots.pop() else {
+                    unreachable!()
+                };
                 slots.destroy_empty();
                 Err((value, NoMemory))
             }

@@ -23,6 +23,7 @@ const TURNS: u64 = 1 << 62;
 const WORN: u64 = 1 << 63;
 
 /// A lock over one value.
+#[derive(Drop)]
 pub struct Desk<S: Stands> {
     pub(crate) table: Table<S, Known<S>, Snapshot<S>, Law<S>, Global>,
     ghost words: { table.shared.table_id.words ≡ 1 },
@@ -43,7 +44,8 @@ impl<S: Stands> Desk<S> {
                 return false;
             }
             if word % 2 == 0 {
-                let found = self.table
+                let found = self
+                    .table
                     .shared
                     .compare_exchange::<Take<S>>(place, 0, word, word + 1);
                 if found == word {
@@ -57,7 +59,11 @@ impl<S: Stands> Desk<S> {
     }
 
     // Applies the step to the value that the seat holds.
-    fn apply<M: Move<S>>(&self, place: &mut Place<S, Known<S>>, step: &mut M) -> Done<S, M, M::Reply>
+    fn apply<M: Move<S>>(
+        &self,
+        place: &mut Place<S, Known<S>>,
+        step: &mut M,
+    ) -> Done<S, M, M::Reply>
         requires own { place.old.table_id ≡ self.now.table.shared.table_id }
         requires may { (log : List S.Entry) × Carries S.stands place.old.me log × M.may step.old log }
         ensures own { (place.new.table_id ≡ place.old.table_id) × (place.new.id ≡ place.old.id) }

@@ -12,6 +12,7 @@ pub struct Worn {
 }
 
 /// Why a desk isn't closed.
+#[derive(Drop)]
 pub enum CloseFault<S: Stands> {
     /// Another seat is out. Desk and seat come back as they were.
     OtherSeats(Desk<S>, Seat<S>),

@@ -6,7 +6,6 @@ mod crossing;
 mod desk;
 mod fault;
 mod law;
-
 mod names;
 mod seat;
 mod seats;

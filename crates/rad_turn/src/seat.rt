@@ -8,6 +8,7 @@ use crate::view::Known;
 use atomic_table as table;
 
 /// The right to take turns at one desk, under a name. What it knows is seen by clauses alone.
+#[derive(Drop)]
 pub struct Seat<S: Stands> {
     pub(crate) place: table::Seat<S, Known<S>>,
     pub(crate) name: u32,
@@ -20,7 +21,7 @@ pub struct Seat<S: Stands> {
 }
 
 impl<S: Stands> Seat<S> {
-    ghost use Rattle.std.specs.Prelude.{◌≡◌};
+    ghost use Rattle.std.specs.Prelude.{◌≡◌, length};
     ghost use Rattle.rad_turn.specs.Sides.{view};
 
     /// The seat's name, which is 0 for the first seat.
@@ -28,5 +29,12 @@ impl<S: Stands> Seat<S> {
         ensures { result ≡ (view self.now).name }
     {
         self.name
+    }
+
+    /// How many other seats are out, at the first seat.
+    pub fn others(&self) -> usize
+        ensures { result ≡ length (view self.now).out }
+    {
+        self.out.len()
     }
 }

@@ -39,9 +39,7 @@ impl<S: Stands> Desk<S> {
             name,
             out: _,
         } = other;
-        self.table
-            .shared
-            .join_seat::<Glue>(&mut seat.place, place);
+        self.table.shared.join_seat::<Glue>(&mut seat.place, place);
         self.table.shared.load::<Settle<S>>(&mut seat.place, 0);
         remove_name(&mut seat.out, name);
     }

@@ -1,5 +1,5 @@
-use Rattle.std.proofs.Common.{rules, ◌≡◌, ◌-◌, ◌≤◌, ◌+◌, length, sym, ◌∙◌, subst, arith, insert, ℕ}
-use Rattle.rad_turn.specs.Names.{least_free, with_name}
+use Rattle.std.proofs.Common.{rules, ◌≡◌, ◌-◌, sym, ◌∙◌, subst, arith, insert, ℕ}
+use Rattle.rad_turn.specs.Names.{with_name}
 use Rattle.rad_turn.proofs.Naming.{least_is, least_near, inserted}
 use Rattle.rad_turn.proofs.names.add_name.Goals as goal
 

@@ -16,12 +16,13 @@ load-requires g c = let seat = c.args.seat.now in let other = c.args.other in
 pub invariant_of-seat : goal.invariant_of-seat
 invariant_of-seat g c =
     let seat = c.args.seat.now in let other = c.args.other in
+    let gone : c.remove_name.new.out.items ≡ without_name other.name seat.out.items = c.remove_name.ensures in
     let leaves = join_leaves g.S.Stands.by seat.place.me.0 other.place.me.0 seat.idle other.idle seat.place.me.1 _ _ c.join_seat.ensures.2 c.load.ensures.2 in record {
       idle = leaves.0;
       empty = ap length leaves.1 ∙ seat.empty;
       named = leaves.2 ∙ seat.named;
-      others = leaves.3 ∙ ((λ i. without_name (other.named i) (seat.others i)) ∙ sym c.remove_name.ensures);
-      rising = subst (λ (out : List ℕ). is_rising 0 out ≡ true) (sym c.remove_name.ensures) (without_rising 0 other.name seat.out.items seat.rising);
+      others = leaves.3 ∙ ((λ i. without_name (other.named i) (seat.others i)) ∙ sym {A = List ℕ} gone);
+      rising = subst (λ (out : List ℕ). is_rising 0 out ≡ true) (sym {A = List ℕ} gone) (without_rising 0 other.name seat.out.items seat.rising);
     }
 
 pub returns-clause-joins : goal.returns-clause-joins

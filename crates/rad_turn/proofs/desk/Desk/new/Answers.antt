@@ -1,7 +1,4 @@
-use Rattle.std.proofs.Common.{rules, ◌≡◌, List, [], ◌∷◌, Some, sym, ap, subst}
-use Rattle.atomic_table.specs.Table.{opening}
-use Rattle.rad_turn.specs.Views.{beginner}
-use Rattle.rad_turn.specs.Kept.{Kept}
+use Rattle.std.proofs.Common.{rules, ◌≡◌, [], ◌∷◌}
 use Rattle.rad_turn.proofs.Ending.{opens}
 use Rattle.rad_turn.proofs.desk.Desk.new.Goals as goal
 

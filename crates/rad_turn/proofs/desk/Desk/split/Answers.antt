@@ -1,4 +1,5 @@
 use Rattle.std.proofs.Common.{rules, ◌≡◌, true, List, ℕ, sym, ap, ◌∙◌, subst, length}
+use Rattle.rad_turn.specs.Seats.{out_of}
 use Rattle.rad_turn.specs.Names.{is_rising, least_free, with_name}
 use Rattle.rad_turn.proofs.Naming.{least_is, with_rising}
 use Rattle.rad_turn.proofs.Sharing.{cuts_idle, cut_keeps, parts}
@@ -12,17 +13,21 @@ invariant_of-seat-2 g c =
     let seat = c.args.seat.now in
     let keeps = cut_keeps seat.place.me.0 seat.place.me.1 _ seat.idle c.split_seat-place.ensures.2 in
     let name : c.free_name-name.result ≡ least_free seat.out.items = search rules in
-    let added : c.add_name.new.out.items ≡ with_name (least_free seat.out.items) seat.out.items = c.in_ok-add_name.ensures.added ∙ ap (λ (n : ℕ). with_name n seat.out.items) name in
+    let told : c.add_name.new.out.items ≡ with_name c.free_name-name.result seat.out.items = c.in_ok-add_name.ensures.added in
+    let same : with_name c.free_name-name.result seat.out.items ≡ with_name (least_free seat.out.items) seat.out.items = ap (λ (n : ℕ). with_name n seat.out.items) name in
+    let added : c.add_name.new.out.items ≡ with_name (least_free seat.out.items) seat.out.items = ◌∙◌ {A = List ℕ} told same in
+    let names : with_name (least_free (out_of seat.place.me.0)) (out_of seat.place.me.0) ≡ with_name (least_free seat.out.items) seat.out.items = ap (λ (out : List ℕ). with_name (least_free out) out) seat.others in
     let least = least_is seat.out.items seat.rising in record {
       idle = keeps.0;
       empty = ap length keeps.1 ∙ seat.empty;
       named = keeps.2 ∙ seat.named;
-      others = keeps.3 ∙ ((λ i. with_name (least_free (seat.others i)) (seat.others i)) ∙ sym added);
-      rising = subst (λ (out : List ℕ). is_rising 0 out ≡ true) (sym added) (with_rising 0 (least_free seat.out.items) seat.out.items seat.rising least.positive least.free);
+      others = keeps.3 ∙ (names ∙ sym {A = List ℕ} added);
+      rising = subst (λ (out : List ℕ). is_rising 0 out ≡ true) (sym {A = List ℕ} added) (with_rising 0 (least_free seat.out.items) seat.out.items seat.rising least.positive least.free);
     }
 
 pub returns-clause-parts : goal.returns-clause-parts
 returns-clause-parts g c =
     let seat = c.args.seat.now in
     let told = c.split_seat-place.ensures in
-    (search rules, parts seat.place.me.0 _ _ seat.idle _ _ (ap (λ m. m.0) told.2) (ap (λ m. m.0) told.4) (ap (λ (out : List ℕ). is_rising 0 out) seat.others ∙ seat.rising))
+    let up : is_rising 0 (out_of seat.place.me.0) ≡ true = ap (λ (out : List ℕ). is_rising 0 out) seat.others ∙ seat.rising in
+    (search rules, parts seat.place.me.0 _ _ seat.idle _ _ (ap (λ m. m.0) told.2) (ap (λ m. m.0) told.4) up)

@@ -1,4 +1,4 @@
-use Rattle.std.proofs.Common.{rules, ◌∙◌}
+use Rattle.std.proofs.Common.{◌∙◌}
 use Rattle.rad_turn.proofs.Having.{has_value, releases, turn_leaves, turn_keeps, turned, same_seat}
 use Rattle.rad_turn.proofs.desk.Desk.turn.Goals as goal
 
