@@ -48,6 +48,7 @@ pub record IsTaken {S E O B : Type 0} (log : List E) (s : State S (Option (View 
   pub whole : view.seen ≡ log
   pub alone : (place : ℕ) (v : View E O B) → Sits s.views place v → v.holds ≡ true → place ≡ holder
 
+-- The rule: all that was seen are beginnings of one history of at most 2^62 entries, each seat has its own name, and the desk is free or taken
 pub record Kept {S E O B : Type 0} (stands : S → List E → Type 0) (origin : S → O) (by : E → ℕ) (s : State S (Option (View E O B))) : Type 0 where
   pub log : List E
   pub out : List ℕ

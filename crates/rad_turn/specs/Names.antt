@@ -25,6 +25,7 @@ abbrev pub with_name : ℕ → List ℕ → List ℕ
 with_name name [] = name ∷ []
 with_name name (x ∷ xs) = if nat_lt name x then name ∷ x ∷ xs else x ∷ with_name name xs
 
+-- the names without one
 abbrev pub without_name : ℕ → List ℕ → List ℕ
 without_name name out = filter (λ x. not (x == name)) out
 

@@ -9,10 +9,12 @@ abbrev pub is_idle : {E O B : Type 0} → Option (View E O B) → Bool
 is_idle None = false
 is_idle (Some v) = not v.holds && not v.joins
 
+-- the name of a seat that knows something
 abbrev pub name_of : {E O B : Type 0} → Option (View E O B) → ℕ
 name_of None = 0
 name_of (Some v) = v.name
 
+-- the names out at a seat that knows something
 abbrev pub out_of : {E O B : Type 0} → Option (View E O B) → List ℕ
 out_of None = []
 out_of (Some v) = v.out

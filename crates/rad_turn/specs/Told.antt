@@ -11,6 +11,7 @@ module _ {S E O B : Type 0} (stands : S → List E → Type 0) (origin : S → O
   abbrev pub SeesEnd : View E O B → List (ℕ × S) → Me S (Option (View E O B)) → Type 0
   SeesEnd v slots m' = (seen : List E) × (m' ≡ (Some (record v { seen = seen }), slots)) × Learns by v seen × (length seen ≡ 2 ^ 62) × ((value : S) × Stood stands origin v.origin seen value)
 
+  -- the same of a seat before a step and after it
   abbrev pub Ends : Me S (Option (View E O B)) → Me S (Option (View E O B)) → Type 0
   Ends m m' = (v : View E O B) → m.0 ≡ Some v → SeesEnd v m.1 m'
 
@@ -22,13 +23,16 @@ module _ {S E O B : Type 0} (stands : S → List E → Type 0) (origin : S → O
   abbrev pub HasValue : View E O B → List (ℕ × S) → Me S (Option (View E O B)) → Type 0
   HasValue v slots m' = (seen : List E) × (value : S) × (m' ≡ (Some (record v { seen = seen; holds = true }), (0, value) ∷ slots)) × Learns by v seen × (length seen < 2 ^ 62) × Stood stands origin v.origin seen value
 
+  -- the same of a seat before a step and after it
   abbrev pub Holds : Me S (Option (View E O B)) → Me S (Option (View E O B)) → Type 0
   Holds m m' = (v : View E O B) → m.0 ≡ Some v → HasValue v m.1 m'
 
+  -- the exchange that takes the desk changes nothing where it found another number
   abbrev pub took : Step S → Me S (Option (View E O B)) → ℕ → Me S (Option (View E O B)) → Type 0
   took st m found m' = (found ≢ st.first → m' ≡ m) × (found ≡ st.first → Holds m m')
 
 module _ {S E O B : Type 0} where
+  -- a seat with this view holds nothing any more, and has seen these entries more
   abbrev pub gave_as : List E → View E O B → Me S (Option (View E O B)) → Type 0
   gave_as entries v m' = m' ≡ (Some (record v { seen = v.seen ++ entries; holds = false }), [])
 
@@ -68,6 +72,7 @@ abbrev pub cut_left : {E O B : Type 0} → Option (View E O B) → Option (View 
 cut_left None = None
 cut_left (Some v) = Some (record v { out = with_name (least_free v.out) v.out })
 
+-- the new seat
 abbrev pub cut_right : {E O B : Type 0} → Option (View E O B) → Option (View E O B)
 cut_right None = None
 cut_right (Some v) = Some (record v { name = least_free v.out; out = []; holds = false; joins = false; guest = 0; told = [] })
@@ -85,8 +90,10 @@ pub record Takes {E O B : Type 0} (by : E → ℕ) (v : View E O B) (guest : ℕ
   pub either : (seen ≡ v.seen) ⊎ (seen ≡ told)
   pub entries : entries_of by guest seen ≡ entries_of by guest told
 
+-- a seat with this view has taken in what it was told, and the name is out no more
 abbrev pub TakesIn : {S E O B : Type 0} → (E → ℕ) → View E O B → List (ℕ × S) → Me S (Option (View E O B)) → Type 0
 TakesIn {S} {E} by v slots m' = (seen : List E) × (m' ≡ (Some (record v { seen = seen; out = without_name v.guest v.out; joins = false }), slots)) × Takes by v v.guest v.told seen
 
+-- what the load tells at which the first seat takes in what it was told
 abbrev pub settled : {S E O B : Type 0} → (E → ℕ) → Step S → Me S (Option (View E O B)) → ℕ → Me S (Option (View E O B)) → Type 0
 settled {S} {E} {O} {B} by st m found m' = (v : View E O B) → m.0 ≡ Some v → v.joins ≡ true → TakesIn by v m.1 m'

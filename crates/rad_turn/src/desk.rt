@@ -1,4 +1,4 @@
-//! The desk.
+//! The desk, and its turns.
 ghost use Rattle.std.specs.Prelude.{◌≡◌, ℕ, ◌^◌, ◌<◌, true, [], ◌∷◌, ◌++◌, List, length, MatchBool, Some};
 ghost use Rattle.rad_turn.specs.Seats.{is_idle};
 ghost use Rattle.rad_turn.specs.Views.{Stood};
@@ -22,7 +22,7 @@ const TURNS: u64 = 1 << 62;
 /// What the word shows where all turns were taken, which is twice their number.
 const WORN: u64 = 1 << 63;
 
-/// A lock over one value.
+/// A lock over one value, which is handed to one step at a time.
 #[derive(Drop)]
 pub struct Desk<S: Stands> {
     pub(crate) table: Table<S, Known<S>, Snapshot<S>, Law<S>, Global>,

@@ -1,7 +1,7 @@
-//! A desk: a lock over one value, whose turns stand in one history, and the seats that take turns at it.
-//! The one model is what a seat knows: a list of the entries that it has seen, its name, and the names of the other seats.
-//! Seats' lists are beginnings of one history, and the value is the state after it.
-//! The core is to stand behind a desk once several workers serve; nothing here knows RADIUS, and no crate uses it yet.
+//! A desk: a lock over one value whose turns stand in one history. A seat is the right to take turns under a name.
+//! The one model is a seat's view: what it has seen of the history, its name, the names of the other seats that are out,
+//! and what the history goes out from. The history itself exists in proofs alone. A value behind a desk says what it
+//! stands for (`Stands`), and a step what it does (`Move`). No crate of the server stands above it yet.
 #![tactic(auto)]
 
 mod closing;
