@@ -84,13 +84,15 @@ fn run<R: Wait>(
     } = plan;
     let mut crew = MemCrew::new(alloc, failing_kits);
     if has_kit {
-        add_kit(
-            &mut crew,
-            MemWire::new(alloc, script, failing_receives, failing_sends),
-            MemShelf::new(alloc, failing_appends),
-            ListClock::new(moments),
-            ListLuck::new(luck),
-        )?;
+        crew.add(Kit {
+            listener: 0,
+            wire: MemWire::new(alloc, script, failing_receives, failing_sends),
+            control: None,
+            shelf: MemShelf::new(alloc, failing_appends),
+            clock: ListClock::new(moments),
+            luck: ListLuck::new(luck),
+            gate: OpenGate,
+        })?;
     }
     let mut files = MemFiles::new(maps, failing_reads);
     let out = MemSink::new(alloc, failing_writes);
@@ -104,25 +106,6 @@ fn run<R: Wait>(
         out,
         did,
     )
-}
-
-/// Adds the kit of these devices to the crew.
-fn add_kit(
-    crew: &mut Memories,
-    wire: MemWire,
-    shelf: MemShelf,
-    clock: ListClock,
-    luck: ListLuck,
-) -> Result<(), NoMemory> {
-    crew.add(Kit {
-        listener: 0,
-        wire,
-        control: None,
-        shelf,
-        clock,
-        luck,
-        gate: OpenGate,
-    })
 }
 
 /// Runs the server over these devices, and writes what it did.
