@@ -13,3 +13,4 @@ pub mod MemFiles
 pub mod MemCrew
 pub mod MemShelf
 pub mod Address
+pub mod Host

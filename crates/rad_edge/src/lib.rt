@@ -8,9 +8,9 @@
 mod host;
 mod mem;
 
-pub use host::{HostClock, HostFiles, HostSink, UdpCrew, UdpWire};
+pub use host::{HostClock, HostFiles, HostShelf, HostSink, PcgLuck, UdpCrew, UdpKit, UdpWire};
 pub use mem::{Cue, ListClock, ListLuck, MemCrew, MemFiles, MemShelf, MemSink, MemWire, OpenGate};
 pub use rad_outside::{
-    Append, Clock, Crew, Failed, Files, Found, Gate, Got, Heard, Kit, KitFault, Listen, ListenKind,
-    Luck, NoMemory, Octets, Peer, Place, Point, Sent, Shelf, Sink, Wire,
+    Append, Clock, Crew, Failed, Files, Found, Gate, Got, Heard, Kit, KitFault, Listed, Listen,
+    ListenKind, Luck, NoMemory, Octets, OctetsList, Peer, Place, Point, Sent, Shelf, Sink, Wire,
 };
