@@ -13,14 +13,14 @@ use std::time::Duration;
 
 /// A wire that has ended after its first quiet while.
 #[derive(Drop)]
-struct UntilQuiet {
-    wire: UdpWire,
+struct UntilQuiet<W> {
+    wire: W,
     is_over: bool,
     faults: u64,
     failures_in_a_row: u64,
 }
 
-impl Wire for UntilQuiet {
+impl<W: Wire> Wire for UntilQuiet<W> {
     ghost told = { λ _. None };
 
     ghost faults = { λ w. w.faults };
@@ -63,10 +63,10 @@ impl Wire for UntilQuiet {
     }
 }
 
-type OneWire = MemCrew<UntilQuiet, MemShelf, ListClock, ListLuck, OpenGate>;
+type OneWire<W> = MemCrew<UntilQuiet<W>, MemShelf, ListClock, ListLuck, OpenGate>;
 
 /// A crew that has one wire to hand out, until that wire is quiet.
-fn crew_of(alloc: Global, wire: UdpWire) -> Result<OneWire, NoMemory> {
+fn crew_of<W: Wire + Drop>(alloc: Global, wire: W) -> Result<OneWire<W>, NoMemory> {
     let mut crew = MemCrew::new(alloc, Vec::new(alloc));
     crew.add(Kit {
         listener: 0,
@@ -123,32 +123,36 @@ const ACCEPT: &[u8] = &[
 ];
 
 /// The server's exit status over this wire, on the site `SITE`.
-fn served<R: Wait>(rt: &R, alloc: Global, wire: UdpWire) -> Result<u8, NoMemory> {
+fn served<R: Wait, W: Wire + Send + Drop>(rt: &R, alloc: Global, wire: W) -> Result<u8, NoMemory> {
     let mut crew = crew_of(alloc, wire)?;
     served_by(rt, alloc, &mut crew)
 }
 
-fn served_by<R: Wait>(rt: &R, alloc: Global, crew: &mut OneWire) -> Result<u8, NoMemory> {
+fn served_by<R: Wait, W: Wire + Send + Drop>(
+    rt: &R,
+    alloc: Global,
+    crew: &mut OneWire<W>,
+) -> Result<u8, NoMemory> {
     let words = words_of(alloc, &["radiusd", "-s", "-d", "site"])?;
     with_files(rt, alloc, words.as_slice(), crew)
 }
 
-fn with_files<R: Wait>(
+fn with_files<R: Wait, W: Wire + Send + Drop>(
     rt: &R,
     alloc: Global,
     words: &[String],
-    crew: &mut OneWire,
+    crew: &mut OneWire<W>,
 ) -> Result<u8, NoMemory> {
     let mut files = files_of(alloc, SITE)?;
     with_hub(rt, alloc, words, &mut files, crew)
 }
 
-fn with_hub<R: Wait>(
+fn with_hub<R: Wait, W: Wire + Send + Drop>(
     rt: &R,
     alloc: Global,
     words: &[String],
     files: &mut MemFiles,
-    crew: &mut OneWire,
+    crew: &mut OneWire<W>,
 ) -> Result<u8, NoMemory> {
     let path = Octets::of(alloc, "radutmp.log".as_bytes())?;
     let mut hub = Hub::new(alloc, MemShelf::new(alloc, Vec::new(alloc)), path)?;

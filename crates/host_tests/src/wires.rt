@@ -3,6 +3,7 @@
 use rad_edge::UdpWire;
 use rad_outside::{Got, Peer, Wire};
 use std::io;
+use std::net::Net;
 use std::test::Fail;
 use std::time::Instant;
 
@@ -19,7 +20,7 @@ fn answers<W: Wire>(wire: &mut W, want: Got, octets: &[u8]) -> bool {
 }
 
 /// Where a wire at 127.0.0.1 is bound.
-fn place_of(wire: &UdpWire) -> io::Result<Peer> {
+fn place_of<R: Net + Eprint + Clone>(wire: &UdpWire<R>) -> io::Result<Peer> {
     Ok(Peer {
         addr: ANY.addr,
         port: wire.port()?,
