@@ -1,8 +1,8 @@
-//! `MemFiles`: maps from paths to octets, and reads that fail.
+//! `MemFiles`: maps from paths to octets, and calls that fail.
 
 use crate::answers::{parted, path_of, say, say_no_call};
 use rad_edge::MemFiles;
-use rad_outside::{Files, Found, NoMemory, Octets};
+use rad_outside::{Files, Found, Listed, NoMemory, Octets, OctetsList};
 use shared_cases::{Case, Field, numbers};
 use std::alloc::Global;
 
@@ -58,7 +58,35 @@ fn call<F: Files>(
             Found::Failed => say(answers, &[b"failed"])?,
             Found::NoMemory => return Err(NoMemory),
         },
+        b"list" => list(alloc, files, path_of(field.text.as_slice()), answers)?,
         name => say_no_call(answers, name)?,
     }
     Ok(())
+}
+
+/// Looks into a folder.
+fn list<F: Files>(
+    alloc: Global,
+    files: &mut F,
+    dir: &str,
+    answers: &mut Vec<u8>,
+) -> Result<(), NoMemory> {
+    match files.list(alloc, dir) {
+        Listed::Names(names) => say_names(answers, &names),
+        Listed::Missing => say(answers, &[b"missing"]),
+        Listed::Failed => say(answers, &[b"failed"]),
+        Listed::NoMemory => Err(NoMemory),
+    }
+}
+
+/// Writes names, each behind a blank.
+fn say_names(answers: &mut Vec<u8>, names: &OctetsList) -> Result<(), NoMemory> {
+    answers.extend_from_slice(b"names")?;
+    for index in 0..names.len() {
+        if let Some(name) = names.get(index) {
+            answers.push(b' ')?;
+            answers.extend_from_slice(name.as_slice())?;
+        }
+    }
+    say(answers, &[])
 }

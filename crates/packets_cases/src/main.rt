@@ -16,28 +16,20 @@ use crate::decoded::DecodeCases;
 use crate::drops::DropCases;
 use crate::hiding::HidingCases;
 use crate::replies::ReplyCases;
-use rad_outside::NoMemory;
 use shared_cases::{Form, Tally};
 use std::process::ExitCode;
 
-fn main(rt: HostRuntime) -> ExitCode {
-    match judged(&rt) {
-        Ok(status) => status,
-        Err(NoMemory) => ExitCode::from(1),
-    }
-}
-
 /// Tries the cases of each file, and those that are meant to differ.
-fn judged(rt: &HostRuntime) -> Result<ExitCode, NoMemory> {
+fn main(rt: HostRuntime) -> ExitCode {
     let mut tally = Tally::new(rt.alloc());
-    tally.judge_file(rt, &mut DropCases, Form::Rows, "check.cases")?;
-    tally.judge_file(rt, &mut DecodeCases, Form::Rows, "decode.cases")?;
-    tally.judge_file(rt, &mut ReplyCases, Form::Blocks, "replies.cases")?;
-    tally.judge_file(rt, &mut HidingCases, Form::Rows, "hiding.cases")?;
+    tally.judge_file(rt, &mut DropCases, Form::Rows, "check.cases");
+    tally.judge_file(rt, &mut DecodeCases, Form::Rows, "decode.cases");
+    tally.judge_file(rt, &mut ReplyCases, Form::Blocks, "replies.cases");
+    tally.judge_file(rt, &mut HidingCases, Form::Rows, "hiding.cases");
     let mut wrong = Tally::new(rt.alloc());
-    wrong.judge_file(rt, &mut DropCases, Form::Rows, "wrong_check.cases")?;
-    wrong.judge_file(rt, &mut DecodeCases, Form::Rows, "wrong_decode.cases")?;
-    wrong.judge_file(rt, &mut ReplyCases, Form::Blocks, "wrong_replies.cases")?;
-    wrong.judge_file(rt, &mut HidingCases, Form::Rows, "wrong_hiding.cases")?;
-    Ok(tally.finish(rt, &wrong))
+    wrong.judge_file(rt, &mut DropCases, Form::Rows, "wrong_check.cases");
+    wrong.judge_file(rt, &mut DecodeCases, Form::Rows, "wrong_decode.cases");
+    wrong.judge_file(rt, &mut ReplyCases, Form::Blocks, "wrong_replies.cases");
+    wrong.judge_file(rt, &mut HidingCases, Form::Rows, "wrong_hiding.cases");
+    tally.finish(&rt, &wrong)
 }

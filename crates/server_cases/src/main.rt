@@ -8,13 +8,9 @@ mod running;
 mod script;
 mod transcript;
 
-use rad_outside::NoMemory;
 use running::Server;
 use shared_cases::{Form, Tally};
-use std::alloc::Global;
 use std::process::ExitCode;
-use std::rt::Files;
-use std::sync::Wait;
 
 /// The files of cases.
 const FILES: [&str; 6] = [
@@ -27,24 +23,13 @@ const FILES: [&str; 6] = [
 ];
 
 /// Tries all cases, and those whose expectations are wrong on purpose.
-fn tally_of<R: Files + Input + Wait>(
-    rt: &R,
-    alloc: Global,
-    wrong: &mut Tally,
-) -> Result<Tally, NoMemory> {
-    let mut server = Server { rt };
-    let mut tally = Tally::new(alloc);
-    for file in FILES {
-        tally.judge_file(rt, &mut server, Form::Blocks, file)?;
-    }
-    wrong.judge_file(rt, &mut server, Form::Blocks, "wrong.cases")?;
-    Ok(tally)
-}
-
 fn main(rt: HostRuntime) -> ExitCode {
-    let mut wrong = Tally::new(rt.alloc());
-    match tally_of(&rt, rt.alloc(), &mut wrong) {
-        Ok(tally) => tally.finish(&rt, &wrong),
-        Err(NoMemory) => ExitCode::from(1),
+    let mut server = Server { rt: &rt };
+    let mut tally = Tally::new(rt.alloc());
+    for file in FILES {
+        tally.judge_file(rt, &mut server, Form::Blocks, file);
     }
+    let mut wrong = Tally::new(rt.alloc());
+    wrong.judge_file(rt, &mut server, Form::Blocks, "wrong.cases");
+    tally.finish(&rt, &wrong)
 }

@@ -14,6 +14,6 @@ pub use block_form::blocks;
 pub use case::{Case, Field};
 pub use row_form::rows;
 pub use spelling::{
-    after_word, decimal, hexadecimal, numbers, push_hexadecimal, push_number, unescaped, words,
+    after_word, decimal, hexadecimal, numbers, push_hexadecimal, push_number, words,
 };
 pub use tally::{Form, Subject, Tally};

@@ -45,9 +45,21 @@ impl Tally {
         }
     }
 
-    /// Tries the cases of a file in the folder that the program runs in. A file that can't be read, and one that has no
-    /// case, count as one wrong case.
-    pub fn judge_file<R: rt::Files + Input + Drop, S: Subject>(
+    /// Tries the cases of a file in the folder that the program runs in. A file that can't be read, one that has no case,
+    /// and want of memory count as one wrong case.
+    pub fn judge_file<R: rt::Files + Input + Eprint + Alloc<A = Global> + Clone + Drop, S: Subject>(
+        &mut self,
+        rt: R,
+        subject: &mut S,
+        form: Form,
+        file: &str,
+    ) {
+        if let Err(NoMemory) = self.try_file(rt, subject, form, file) {
+            self.count_wrong();
+        }
+    }
+
+    fn try_file<R: rt::Files + Input + Eprint + Alloc<A = Global> + Clone + Drop, S: Subject>(
         &mut self,
         rt: R,
         subject: &mut S,
@@ -87,10 +99,14 @@ impl Tally {
         self.say(b"got:\n    ", got)
     }
 
-    /// Counts a wrong case, and says why.
-    fn fail(&mut self, file: &str, line: u64, why: &[u8]) -> Result<(), NoMemory> {
+    fn count_wrong(&mut self) {
         self.cases = self.cases.saturating_add(1);
         self.wrong = self.wrong.saturating_add(1);
+    }
+
+    /// Counts a wrong case, and says why.
+    fn fail(&mut self, file: &str, line: u64, why: &[u8]) -> Result<(), NoMemory> {
+        self.count_wrong();
         self.report.extend_from_slice(file.as_bytes())?;
         self.report.push(b'[')?;
         push_number(self.alloc, &mut self.report, line)?;
@@ -105,13 +121,8 @@ impl Tally {
         Ok(())
     }
 
-    /// How many cases were tried, and how many of them were wrong.
-    pub fn counts(&self) -> (u64, u64) {
-        (self.cases, self.wrong)
-    }
-
-    /// Prints how many cases there were, and on standard error what is said of those that were wrong. `missed` are the
-    /// cases of a file that is meant to differ: each of them has to be wrong. Answers 0 where all is as it should be.
+    /// Prints how many cases there were, and on standard error what is said of those that were wrong. Each case that is
+    /// meant to differ has to be wrong. Answers 0 where all is as it should be.
     pub fn finish<R: Print + Eprint>(&self, rt: &R, meant_to_differ: &Tally) -> ExitCode {
         let found = meant_to_differ.wrong;
         let meant = meant_to_differ.cases;

@@ -20,96 +20,81 @@ use crate::configurations::{ConfCases, ConfPathCases, ConfTextCases};
 use crate::dictionaries::{DictionaryCases, DictionaryLineCases};
 use crate::runs::RunCases;
 use crate::users_files::{UsersCases, UsersTextCases};
-use rad_outside::NoMemory;
 use shared_cases::{Form, Tally};
 use std::process::ExitCode;
 
-fn main(rt: HostRuntime) -> ExitCode {
-    match judged(&rt) {
-        Ok(status) => status,
-        Err(NoMemory) => ExitCode::from(1),
-    }
-}
-
 /// Tries the cases of each file, and those that are meant to differ.
-fn judged(rt: &HostRuntime) -> Result<ExitCode, NoMemory> {
+fn main(rt: HostRuntime) -> ExitCode {
     let mut tally = Tally::new(rt.alloc());
-    judge_dictionaries(rt, &mut tally)?;
-    judge_configurations(rt, &mut tally)?;
-    judge_users(rt, &mut tally)?;
+    judge_dictionaries(rt, &mut tally);
+    judge_configurations(rt, &mut tally);
+    judge_users(rt, &mut tally);
     let mut wrong = Tally::new(rt.alloc());
-    judge_wrong_dictionaries(rt, &mut wrong)?;
-    judge_wrong_configurations(rt, &mut wrong)?;
-    judge_wrong_users(rt, &mut wrong)?;
-    Ok(tally.finish(rt, &wrong))
+    judge_wrong_dictionaries(rt, &mut wrong);
+    judge_wrong_configurations(rt, &mut wrong);
+    judge_wrong_users(rt, &mut wrong);
+    tally.finish(&rt, &wrong)
 }
 
-fn judge_dictionaries(rt: &HostRuntime, tally: &mut Tally) -> Result<(), NoMemory> {
-    tally.judge_file(rt, &mut BaseCases, Form::Rows, "base_look_ups.cases")?;
-    tally.judge_file(
-        rt,
-        &mut DictionaryLineCases,
-        Form::Rows,
-        "dictionary_lines.cases",
-    )?;
-    for file in [
-        "dictionary_definitions.cases",
-        "dictionary_faults.cases",
-        "dictionary_includes.cases",
-    ] {
-        tally.judge_file(rt, &mut DictionaryCases, Form::Blocks, file)?;
+/// The files of dictionaries in blocks.
+const DICTIONARIES: [&str; 3] = [
+    "dictionary_definitions.cases",
+    "dictionary_faults.cases",
+    "dictionary_includes.cases",
+];
+
+fn judge_dictionaries(rt: HostRuntime, tally: &mut Tally) {
+    tally.judge_file(rt, &mut BaseCases, Form::Rows, "base_look_ups.cases");
+    let lines = "dictionary_lines.cases";
+    tally.judge_file(rt, &mut DictionaryLineCases, Form::Rows, lines);
+    for file in DICTIONARIES {
+        tally.judge_file(rt, &mut DictionaryCases, Form::Blocks, file);
     }
-    Ok(())
 }
 
-fn judge_configurations(rt: &HostRuntime, tally: &mut Tally) -> Result<(), NoMemory> {
-    for file in ["conf_faults.cases", "conf_trees.cases"] {
-        tally.judge_file(rt, &mut ConfTextCases, Form::Rows, file)?;
-    }
-    tally.judge_file(rt, &mut ConfPathCases, Form::Rows, "conf_paths.cases")?;
-    tally.judge_file(rt, &mut ConfCases, Form::Blocks, "conf_files.cases")
+fn judge_configurations(rt: HostRuntime, tally: &mut Tally) {
+    tally.judge_file(rt, &mut ConfTextCases, Form::Rows, "conf_faults.cases");
+    tally.judge_file(rt, &mut ConfTextCases, Form::Rows, "conf_trees.cases");
+    tally.judge_file(rt, &mut ConfPathCases, Form::Rows, "conf_paths.cases");
+    tally.judge_file(rt, &mut ConfCases, Form::Blocks, "conf_files.cases");
 }
 
-fn judge_users(rt: &HostRuntime, tally: &mut Tally) -> Result<(), NoMemory> {
-    tally.judge_file(rt, &mut UsersTextCases, Form::Rows, "users_texts.cases")?;
-    tally.judge_file(rt, &mut UsersCases, Form::Blocks, "users_entries.cases")?;
-    tally.judge_file(rt, &mut RunCases, Form::Blocks, "users_runs.cases")
+fn judge_users(rt: HostRuntime, tally: &mut Tally) {
+    tally.judge_file(rt, &mut UsersTextCases, Form::Rows, "users_texts.cases");
+    tally.judge_file(rt, &mut UsersCases, Form::Blocks, "users_entries.cases");
+    tally.judge_file(rt, &mut RunCases, Form::Blocks, "users_runs.cases");
 }
 
-fn judge_wrong_dictionaries(rt: &HostRuntime, wrong: &mut Tally) -> Result<(), NoMemory> {
-    wrong.judge_file(rt, &mut BaseCases, Form::Rows, "wrong_look_ups.cases")?;
+fn judge_wrong_dictionaries(rt: HostRuntime, wrong: &mut Tally) {
+    wrong.judge_file(rt, &mut BaseCases, Form::Rows, "wrong_look_ups.cases");
     wrong.judge_file(
         rt,
         &mut DictionaryLineCases,
         Form::Rows,
         "wrong_lines.cases",
-    )?;
-    wrong.judge_file(
-        rt,
-        &mut DictionaryCases,
-        Form::Blocks,
-        "wrong_dictionaries.cases",
-    )
+    );
+    let dictionaries = "wrong_dictionaries.cases";
+    wrong.judge_file(rt, &mut DictionaryCases, Form::Blocks, dictionaries);
 }
 
-fn judge_wrong_configurations(rt: &HostRuntime, wrong: &mut Tally) -> Result<(), NoMemory> {
-    wrong.judge_file(rt, &mut ConfTextCases, Form::Rows, "wrong_conf.cases")?;
-    wrong.judge_file(rt, &mut ConfPathCases, Form::Rows, "wrong_paths.cases")?;
-    wrong.judge_file(rt, &mut ConfCases, Form::Blocks, "wrong_conf_files.cases")
+fn judge_wrong_configurations(rt: HostRuntime, wrong: &mut Tally) {
+    wrong.judge_file(rt, &mut ConfTextCases, Form::Rows, "wrong_conf.cases");
+    wrong.judge_file(rt, &mut ConfPathCases, Form::Rows, "wrong_paths.cases");
+    wrong.judge_file(rt, &mut ConfCases, Form::Blocks, "wrong_conf_files.cases");
 }
 
-fn judge_wrong_users(rt: &HostRuntime, wrong: &mut Tally) -> Result<(), NoMemory> {
+fn judge_wrong_users(rt: HostRuntime, wrong: &mut Tally) {
     wrong.judge_file(
         rt,
         &mut UsersTextCases,
         Form::Rows,
         "wrong_users_texts.cases",
-    )?;
+    );
     wrong.judge_file(
         rt,
         &mut UsersCases,
         Form::Blocks,
         "wrong_users_entries.cases",
-    )?;
-    wrong.judge_file(rt, &mut RunCases, Form::Blocks, "wrong_users_runs.cases")
+    );
+    wrong.judge_file(rt, &mut RunCases, Form::Blocks, "wrong_users_runs.cases");
 }

@@ -7,31 +7,16 @@ mod counter;
 mod office;
 mod scripts;
 
-use rad_outside::NoMemory;
 use scripts::Scripts;
 use shared_cases::{Form, Tally};
-use std::alloc::Global;
 use std::process::ExitCode;
-use std::rt::Files;
-use std::sync::Wait;
 
 /// Tries all scripts, and those whose expectations are wrong on purpose.
-fn tally_of<R: Files + Input + Wait>(
-    rt: &R,
-    alloc: Global,
-    wrong: &mut Tally,
-) -> Result<Tally, NoMemory> {
-    let mut scripts = Scripts { rt };
-    let mut tally = Tally::new(alloc);
-    tally.judge_file(rt, &mut scripts, Form::Rows, "turns.cases")?;
-    wrong.judge_file(rt, &mut scripts, Form::Rows, "wrong.cases")?;
-    Ok(tally)
-}
-
 fn main(rt: HostRuntime) -> ExitCode {
+    let mut scripts = Scripts { rt: &rt };
+    let mut tally = Tally::new(rt.alloc());
+    tally.judge_file(rt, &mut scripts, Form::Rows, "turns.cases");
     let mut wrong = Tally::new(rt.alloc());
-    match tally_of(&rt, rt.alloc(), &mut wrong) {
-        Ok(tally) => tally.finish(&rt, &wrong),
-        Err(NoMemory) => ExitCode::from(1),
-    }
+    wrong.judge_file(rt, &mut scripts, Form::Rows, "wrong.cases");
+    tally.finish(&rt, &wrong)
 }

@@ -16,60 +16,54 @@ use crate::lists::{Edits, Steps};
 use crate::printing::PrintedTexts;
 use crate::reading::{PairTexts, ValueTexts};
 use crate::tables::{Columns, NamesAndNumbers};
-use rad_outside::NoMemory;
-use shared_cases::{Form, Subject, Tally};
+use shared_cases::{Form, Tally};
 use std::process::ExitCode;
 
+/// Tries the cases of each file, and those that are meant to differ.
 fn main(rt: HostRuntime) -> ExitCode {
-    match (judged(rt, ""), judged(rt, "wrong_")) {
-        (Ok(tally), Ok(wrong)) => tally.finish(&rt, &wrong),
-        _ => ExitCode::from(1),
-    }
-}
-
-/// The cases of all files whose names begin so: those that have to be right, or those that are wrong on purpose.
-fn judged(rt: HostRuntime, front: &str) -> Result<Tally, NoMemory> {
     let mut tally = Tally::new(rt.alloc());
-    judge_tables(rt, &mut tally, front)?;
-    judge_lists(rt, &mut tally, front)?;
-    judge_read(rt, &mut tally, front)?;
-    judge_printed(rt, &mut tally, front)?;
-    Ok(tally)
+    judge_tables(rt, &mut tally);
+    judge_lists(rt, &mut tally);
+    judge_texts(rt, &mut tally);
+    let mut wrong = Tally::new(rt.alloc());
+    judge_wrong_tables(rt, &mut wrong);
+    judge_wrong_lists(rt, &mut wrong);
+    judge_wrong_texts(rt, &mut wrong);
+    tally.finish(&rt, &wrong)
 }
 
-fn judge_tables(rt: HostRuntime, tally: &mut Tally, front: &str) -> Result<(), NoMemory> {
-    judge_rows(rt, tally, &mut Columns, front, "actions")?;
-    judge_rows(rt, tally, &mut NamesAndNumbers, front, "names")
+fn judge_tables(rt: HostRuntime, tally: &mut Tally) {
+    tally.judge_file(rt, &mut Columns, Form::Rows, "actions.cases");
+    tally.judge_file(rt, &mut NamesAndNumbers, Form::Rows, "names.cases");
 }
 
-fn judge_lists(rt: HostRuntime, tally: &mut Tally, front: &str) -> Result<(), NoMemory> {
-    judge_rows(rt, tally, &mut Comparisons, front, "comparisons")?;
-    judge_rows(rt, tally, &mut Edits, front, "edits")?;
-    let steps = format!(in rt.alloc(); "{front}lists.cases")?;
-    tally.judge_file(rt, &mut Steps, Form::Blocks, steps.as_str())
+fn judge_lists(rt: HostRuntime, tally: &mut Tally) {
+    tally.judge_file(rt, &mut Comparisons, Form::Rows, "comparisons.cases");
+    tally.judge_file(rt, &mut Edits, Form::Rows, "edits.cases");
+    tally.judge_file(rt, &mut Steps, Form::Blocks, "lists.cases");
 }
 
-fn judge_read(rt: HostRuntime, tally: &mut Tally, front: &str) -> Result<(), NoMemory> {
-    let mut pairs = PairTexts::of_base(rt.alloc())?;
-    judge_rows(rt, tally, &mut pairs, front, "pairs")?;
-    let mut values = ValueTexts::of_base(rt.alloc())?;
-    judge_rows(rt, tally, &mut values, front, "values")
+fn judge_texts(rt: HostRuntime, tally: &mut Tally) {
+    tally.judge_file(rt, &mut PairTexts, Form::Rows, "pairs.cases");
+    tally.judge_file(rt, &mut ValueTexts, Form::Rows, "values.cases");
+    tally.judge_file(rt, &mut PrintedTexts, Form::Rows, "printing.cases");
+    tally.judge_file(rt, &mut PrintedTexts, Form::Rows, "read_back.cases");
 }
 
-fn judge_printed(rt: HostRuntime, tally: &mut Tally, front: &str) -> Result<(), NoMemory> {
-    let mut printed = PrintedTexts::of_base(rt.alloc())?;
-    judge_rows(rt, tally, &mut printed, front, "printing")?;
-    judge_rows(rt, tally, &mut printed, front, "read_back")
+fn judge_wrong_tables(rt: HostRuntime, wrong: &mut Tally) {
+    wrong.judge_file(rt, &mut Columns, Form::Rows, "wrong_actions.cases");
+    wrong.judge_file(rt, &mut NamesAndNumbers, Form::Rows, "wrong_names.cases");
 }
 
-/// Tries the cases of a file, each of which is a line.
-fn judge_rows<S: Subject>(
-    rt: HostRuntime,
-    tally: &mut Tally,
-    subject: &mut S,
-    front: &str,
-    name: &str,
-) -> Result<(), NoMemory> {
-    let file = format!(in rt.alloc(); "{front}{name}.cases")?;
-    tally.judge_file(rt, subject, Form::Rows, file.as_str())
+fn judge_wrong_lists(rt: HostRuntime, wrong: &mut Tally) {
+    wrong.judge_file(rt, &mut Comparisons, Form::Rows, "wrong_comparisons.cases");
+    wrong.judge_file(rt, &mut Edits, Form::Rows, "wrong_edits.cases");
+    wrong.judge_file(rt, &mut Steps, Form::Blocks, "wrong_lists.cases");
+}
+
+fn judge_wrong_texts(rt: HostRuntime, wrong: &mut Tally) {
+    wrong.judge_file(rt, &mut PairTexts, Form::Rows, "wrong_pairs.cases");
+    wrong.judge_file(rt, &mut ValueTexts, Form::Rows, "wrong_values.cases");
+    wrong.judge_file(rt, &mut PrintedTexts, Form::Rows, "wrong_printing.cases");
+    wrong.judge_file(rt, &mut PrintedTexts, Form::Rows, "wrong_read_back.cases");
 }

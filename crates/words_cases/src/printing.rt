@@ -12,22 +12,12 @@ use std::alloc::Global;
 /// `pair` or `value`, an attribute and a value of it give the text of the pair or of its value; `back` gives the
 /// pair that is read from the text of the pair.
 #[derive(Drop)]
-pub struct PrintedTexts {
-    dict: Dict,
-}
-
-impl PrintedTexts {
-    /// Pairs are printed by the dictionary's base.
-    pub fn of_base(alloc: Global) -> Result<PrintedTexts, NoMemory> {
-        Ok(PrintedTexts {
-            dict: Dict::base(alloc)?,
-        })
-    }
-}
+pub struct PrintedTexts;
 
 impl Subject for PrintedTexts {
     fn answer(&mut self, alloc: Global, case: &Case) -> Result<Vec<u8>, NoMemory> {
-        answered(alloc, printed(alloc, &self.dict, case))
+        let base = Dict::base(alloc)?;
+        answered(alloc, printed(alloc, &base, case))
     }
 }
 

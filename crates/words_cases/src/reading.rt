@@ -10,22 +10,12 @@ use std::alloc::Global;
 
 /// A text of pairs gives its pairs, or its first fault.
 #[derive(Drop)]
-pub struct PairTexts {
-    dict: Dict,
-}
-
-impl PairTexts {
-    /// Pairs are read by the dictionary's base.
-    pub fn of_base(alloc: Global) -> Result<PairTexts, NoMemory> {
-        Ok(PairTexts {
-            dict: Dict::base(alloc)?,
-        })
-    }
-}
+pub struct PairTexts;
 
 impl Subject for PairTexts {
     fn answer(&mut self, alloc: Global, case: &Case) -> Result<Vec<u8>, NoMemory> {
-        shown(alloc, read_pairs(alloc, case.cell(0), &self.dict))
+        let base = Dict::base(alloc)?;
+        shown(alloc, read_pairs(alloc, case.cell(0), &base))
     }
 }
 
@@ -95,22 +85,12 @@ const KINDS: [(&[u8], Kind); 7] = [
 
 /// A kind and a text give the value that the text means for Service-Type, were it of that kind.
 #[derive(Drop)]
-pub struct ValueTexts {
-    dict: Dict,
-}
-
-impl ValueTexts {
-    /// Names of values are read by the dictionary's base.
-    pub fn of_base(alloc: Global) -> Result<ValueTexts, NoMemory> {
-        Ok(ValueTexts {
-            dict: Dict::base(alloc)?,
-        })
-    }
-}
+pub struct ValueTexts;
 
 impl Subject for ValueTexts {
     fn answer(&mut self, alloc: Global, case: &Case) -> Result<Vec<u8>, NoMemory> {
-        answered(alloc, meant(alloc, &self.dict, case.cell(0), case.cell(1)))
+        let base = Dict::base(alloc)?;
+        answered(alloc, meant(alloc, &base, case.cell(0), case.cell(1)))
     }
 }
 
