@@ -18,9 +18,9 @@ pub map-insert_key : {K : Type 0} (f : K → List ℕ) (keys : List K) (key : K)
 map-insert_key f [] key = refl
 map-insert_key f (x ∷ xs) key =
     let rest : map f (x ∷ insert_key (λ x y. slice_cmp nat_cmp (f x) (f y)) xs key) ≡ f x ∷ insert_key (slice_cmp nat_cmp) (map f xs) (f key) =
-        ap (λ names. f x ∷ names) (map-insert_key f xs key) in
+    ap (λ names. f x ∷ names) (map-insert_key f xs key) in
     by_order f (slice_cmp nat_cmp (f key) (f x)) (key ∷ x ∷ xs) (x ∷ xs) (x ∷ insert_key (λ x y. slice_cmp nat_cmp (f x) (f y)) xs key)
-        (f x ∷ insert_key (slice_cmp nat_cmp) (map f xs) (f key)) rest
+    (f x ∷ insert_key (slice_cmp nat_cmp) (map f xs) (f key)) rest
 
 -- A file that stands right in the folder adds its name.
 pub with_name-some : (dir name : List ℕ) (names : List (List ℕ)) (file : File) → name_in dir file.path ≡ Some name →

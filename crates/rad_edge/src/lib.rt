@@ -6,9 +6,11 @@
 #![tactic(auto)]
 
 mod host;
+mod laws;
 mod mem;
 
 pub use host::{HostClock, HostFiles, HostShelf, HostSink, PcgLuck, UdpCrew, UdpKit, UdpWire};
+pub use laws::folders_are_listed_whole_and_in_order;
 pub use mem::{Cue, ListClock, ListLuck, MemCrew, MemFiles, MemShelf, MemSink, MemWire, OpenGate};
 pub use rad_outside::{
     Append, Clock, Crew, Failed, Files, Found, Gate, Got, Heard, Kit, KitFault, Listed, Listen,

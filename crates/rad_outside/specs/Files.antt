@@ -45,9 +45,13 @@ after_beginning beginning octets =
 abbrev pub below : List ℕ → List ℕ → Option (List ℕ)
 below dir path = option_and_then (after_beginning (47 ∷ [])) (after_beginning dir path)
 
+-- Whether a slash stands in a name.
+abbrev pub has_slash : List ℕ → Bool
+has_slash name = list_any (λ octet. octet == 47) name
+
 -- A name, where it has no slash.
 abbrev pub plain_name : List ℕ → Option (List ℕ)
-plain_name name = if list_any (λ octet. octet == 47) name then None else Some name
+plain_name name = if has_slash name then None else Some name
 
 -- The name of a file that stands right in the folder: what follows has no slash.
 abbrev pub name_in : List ℕ → List ℕ → Option (List ℕ)
@@ -61,6 +65,14 @@ with_name dir names file =
 -- The names of the files that stand right in a folder, in byte order, each once.
 abbrev pub names_in : List ℕ → List File → List (List ℕ)
 names_in dir files = fold (with_name dir) [] files
+
+-- Whether a name is one of these.
+abbrev pub is_among : List ℕ → List (List ℕ) → Bool
+is_among name names = list_any (bytes_eq name) names
+
+-- Whether the map has a file at this path.
+abbrev pub has_path : List ℕ → List File → Bool
+has_path path files = list_any (λ (file : File). bytes_eq file.path path) files
 
 -- Whether a path of the map stands below the folder.
 abbrev pub is_folder : List ℕ → List File → Bool
