@@ -1,0 +1,5 @@
+pub mod DigitLemmas
+pub mod Decimals
+pub mod LineEnds
+pub mod NumeralLaws
+pub mod AddressLaws
