@@ -3,3 +3,4 @@ pub mod Decimals
 pub mod LineEnds
 pub mod NumeralLaws
 pub mod AddressLaws
+pub mod Turns

@@ -7,3 +7,4 @@ pub mod Numerals
 pub mod Addresses
 pub mod Paths
 pub mod Spots
+pub mod Parts
