@@ -4,3 +4,4 @@ pub mod LineEnds
 pub mod NumeralLaws
 pub mod AddressLaws
 pub mod Turns
+pub mod FirstFaults
