@@ -2,7 +2,7 @@
 use Rattle.std.proofs.Common.{◌≡◌, ℕ, ◌+◌, ◌/◌, ◌%◌, Bool, true, false, not, cond, ◌||◌, eqb, List, [], ◌∷◌, ◌++◌, refl, sym, ap, ◌∙◌, arith}
 use Rattle.std.specs.Int.{is_in_range}
 use Rattle.std.specs.List.{list_any, list_all, flat_map}
-use Rattle.std.proofs.lemmas.Bool.{true≢false, ne_eqb, not-false, and_from, and_parts, or_parts, or_from}
+use Rattle.std.proofs.lemmas.Bool.{true≢false, ne_eqb, not_from_false, and_from, and_parts, or_parts, or_from}
 use Rattle.std.proofs.lemmas.List.Folds.{list_any-append}
 use Rattle.rad_words.specs.declared.attributes.AttrId.{AttrId}
 use Rattle.rad_value.specs.declared.values.Value.{Value}
@@ -33,18 +33,18 @@ has_line_end text = list_any ends_line text
 -- A text without any is a line, and so is one behind what has no newline.
 line_plain : (line : List ℕ) → has_line_end line ≡ false → is_line line ≡ true
 line_plain [] none = refl
-line_plain (c ∷ []) none = not-false (ends_line c) (or_parts (ends_line c) false none).0
+line_plain (c ∷ []) none = not_from_false (ends_line c) (or_parts (ends_line c) false none).0
 line_plain (c ∷ d ∷ line) none =
     let parts = or_parts (ends_line c) (has_line_end (d ∷ line)) none in
-    and_from (not (eqb c 10)) (is_line (d ∷ line)) (not-false (eqb c 10) (or_parts (eqb c 10) (eqb c 13) parts.0).0) (line_plain (d ∷ line) parts.1)
+    and_from (not (eqb c 10)) (is_line (d ∷ line)) (not_from_false (eqb c 10) (or_parts (eqb c 10) (eqb c 13) parts.0).0) (line_plain (d ∷ line) parts.1)
 
 pub line_behind : (front : List ℕ) (c : ℕ) (line : List ℕ) → list_any is_newline front ≡ false → has_line_end (c ∷ line) ≡ false → is_line (front ++ c ∷ line) ≡ true
 line_behind [] c line whole none = line_plain (c ∷ line) none
 line_behind (d ∷ []) c line whole none =
-    and_from (not (eqb d 10)) (is_line (c ∷ line)) (not-false (eqb d 10) (or_parts (eqb d 10) false whole).0) (line_plain (c ∷ line) none)
+    and_from (not (eqb d 10)) (is_line (c ∷ line)) (not_from_false (eqb d 10) (or_parts (eqb d 10) false whole).0) (line_plain (c ∷ line) none)
 line_behind (d ∷ e ∷ front) c line whole none =
     let parts = or_parts (eqb d 10) (list_any is_newline (e ∷ front)) whole in
-    and_from (not (eqb d 10)) (is_line (e ∷ (front ++ c ∷ line))) (not-false (eqb d 10) parts.0) (line_behind (e ∷ front) c line parts.1 none)
+    and_from (not (eqb d 10)) (is_line (e ∷ (front ++ c ∷ line))) (not_from_false (eqb d 10) parts.0) (line_behind (e ∷ front) c line parts.1 none)
 
 pub none_joined : (a b : List ℕ) → has_line_end a ≡ false → has_line_end b ≡ false → has_line_end (a ++ b) ≡ false
 none_joined a b first second = list_any-append ends_line a b ∙ or_from (has_line_end a) (has_line_end b) first second
