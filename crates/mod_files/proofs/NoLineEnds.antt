@@ -16,44 +16,8 @@ use Rattle.rad_value.specs.Kinds.{kind_of_value}
 use Rattle.rad_pairs.specs.ReadingBack.{IsOfKind, InRange}
 use Rattle.rad_pairs.proofs.Attributes.{attr_again}
 use Rattle.rad_pairs.proofs.Values.{IsNoText, value_again}
-use Rattle.rad_text.specs.Lines.{is_line}
-use Rattle.mod_files.specs.Written.{is_newline}
-
--- An octet that ends a line, or may belong to a line's end.
-abbrev pub ends_line : ℕ → Bool
-ends_line c = eqb c 10 || eqb c 13
-
-ends_none : (c : ℕ) → (c ≡ 10 → ⊥) → (c ≡ 13 → ⊥) → ends_line c ≡ false
-ends_none c newline return = or_from (eqb c 10) (eqb c 13) (ne_eqb c 10 newline) (ne_eqb c 13 return)
-
--- An octet of the text is one of these.
-abbrev pub has_line_end : List ℕ → Bool
-has_line_end text = list_any ends_line text
-
--- A text without any is a line, and so is one behind what has no newline.
-line_plain : (line : List ℕ) → has_line_end line ≡ false → is_line line ≡ true
-line_plain [] none = refl
-line_plain (c ∷ []) none = not_from_false (ends_line c) (or_parts (ends_line c) false none).0
-line_plain (c ∷ d ∷ line) none =
-    let parts = or_parts (ends_line c) (has_line_end (d ∷ line)) none in
-    and_from (not (eqb c 10)) (is_line (d ∷ line)) (not_from_false (eqb c 10) (or_parts (eqb c 10) (eqb c 13) parts.0).0) (line_plain (d ∷ line) parts.1)
-
-pub line_behind : (front : List ℕ) (c : ℕ) (line : List ℕ) → list_any is_newline front ≡ false → has_line_end (c ∷ line) ≡ false → is_line (front ++ c ∷ line) ≡ true
-line_behind [] c line whole none = line_plain (c ∷ line) none
-line_behind (d ∷ []) c line whole none =
-    and_from (not (eqb d 10)) (is_line (c ∷ line)) (not_from_false (eqb d 10) (or_parts (eqb d 10) false whole).0) (line_plain (c ∷ line) none)
-line_behind (d ∷ e ∷ front) c line whole none =
-    let parts = or_parts (eqb d 10) (list_any is_newline (e ∷ front)) whole in
-    and_from (not (eqb d 10)) (is_line (e ∷ (front ++ c ∷ line))) (not_from_false (eqb d 10) parts.0) (line_behind (e ∷ front) c line parts.1 none)
-
-pub none_joined : (a b : List ℕ) → has_line_end a ≡ false → has_line_end b ≡ false → has_line_end (a ++ b) ≡ false
-none_joined a b first second = list_any-append ends_line a b ∙ or_from (has_line_end a) (has_line_end b) first second
-
-pub none_in_name : (name : List ℕ) → list_all is_name_octet name ≡ true → has_line_end name ≡ false
-none_in_name [] all = refl
-none_in_name (c ∷ name) all =
-    let parts = and_parts (is_name_octet c) (list_all is_name_octet name) all in
-    or_from (ends_line c) (has_line_end name) (ends_none c (λ e. true≢false (sym parts.0 ∙ ap is_name_octet e)) (λ e. true≢false (sym parts.0 ∙ ap is_name_octet e))) (none_in_name name parts.1)
+use Rattle.rad_text.proofs.LineEnds.{ends_line, ends_none, has_line_end, none_joined}
+use Rattle.rad_dict.proofs.NameWords.{none_in_name}
 
 -- No octet of an escape is one: the octet itself, where it is a quote, a backslash or printable, and octal digits.
 escaped_by : (sign printable : Bool) (c : ℕ) → (sign ≡ true → ends_line c ≡ false) → (printable ≡ true → ends_line c ≡ false)

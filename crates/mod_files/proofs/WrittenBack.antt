@@ -7,7 +7,7 @@ use Rattle.rad_dict.specs.Definitions.{Definitions}
 use Rattle.rad_pairs.specs.declared.items.Item.{Item}
 use Rattle.rad_text.specs.Blanks.{is_blank}
 use Rattle.rad_text.specs.Lines.{is_line, lines_of}
-use Rattle.rad_text.proofs.LineEnds.{written_newline}
+use Rattle.rad_text.proofs.LineEnds.{written_newline, line_behind, none_joined}
 use Rattle.rad_pairs.specs.ValueText.{quoted, attr_text, pair_text}
 use Rattle.rad_dict.specs.EveryDictionary.{IsDictionary}
 use Rattle.rad_pairs.specs.ReadingBack.{item_of}
@@ -20,7 +20,8 @@ use Rattle.mod_files.specs.Entries.{with_replies, entries_from, users_of}
 use Rattle.mod_files.specs.Written.{is_newline, User, password_item, password_text, head_text, replies_text, user_text, users_text, entries_of, IsReplyPair, IsWritable, AreWritable}
 use Rattle.mod_files.proofs.KnownPasswords.{KnowsPasswords}
 use Rattle.mod_files.proofs.EntriesLemmas.{goes_on, no_lines, last_with_replies-push}
-use Rattle.mod_files.proofs.NoLineEnds.{line_behind, none_joined, none_in_name, none_quoted, none_in_pair}
+use Rattle.mod_files.proofs.NoLineEnds.{none_quoted, none_in_pair}
+use Rattle.rad_dict.proofs.NameWords.{none_in_name}
 use Rattle.mod_files.proofs.WrittenLines.{none_of_second, head_back, reply_back}
 
 -- The lines of reply pairs.

@@ -15,3 +15,5 @@ pub mod FirstReading
 pub mod Answers
 pub mod Steps
 pub mod Includes
+pub mod Written
+pub mod WrittenDefinitions

@@ -3,7 +3,7 @@
 use Rattle.std.specs.Prelude.{ℕ, zero, suc, ◌+◌, ◌-◌, ◌*◌, Bool, false, ◌&&◌, ◌||◌, ◌==◌, List, [], ◌∷◌, take, drop, slice_index, Option, Some, None, unwrap_or, if◌then◌else◌}
 use Rattle.std.specs.Option.{is_some}
 use Rattle.std.specs.Int.{is_in_range}
-use Rattle.rad_text.specs.Blanks.{is_blank}
+pub use Rattle.rad_text.specs.Blanks.{is_blank}
 use Rattle.rad_text.specs.Lines.{after_line_end}
 use Rattle.rad_pairs.specs.Operators.{operator_at}
 

@@ -1,7 +1,8 @@
 -- The first line of a text, its end, and the lines behind it.
 use Rattle.std.proofs.Common.{◌≡◌, ℕ, suc, ◌+◌, ◌<◌, Bool, true, false, not, cond, ◌&&◌, ◌||◌, eqb, List, [], ◌∷◌, ◌++◌, length, take, drop, slice_index, Option, Some, None, refl, sym, ap, ◌∙◌, arith}
-use Rattle.std.specs.List.{onto_first}
-use Rattle.std.proofs.lemmas.Bool.{true≢false, and_parts, and_left, and_right, or_parts, not-true, eqb-true}
+use Rattle.std.specs.List.{list_any, onto_first}
+use Rattle.std.proofs.lemmas.List.Folds.{list_any-append}
+use Rattle.std.proofs.lemmas.Bool.{true≢false, and_from, and_parts, and_left, and_right, or_from, or_parts, not-true, not_from_false, ne_eqb, eqb-true}
 use Rattle.rad_text.specs.Lines.{is_return, lines_of, after_line_end, line_len, is_line}
 
 -- What stands behind a line end, or nothing where the text ends.
@@ -113,3 +114,37 @@ written_newline line rest whole = written line (10 ∷ rest) rest whole (newline
 
 pub written_return : (line rest : List ℕ) → is_line line ≡ true → lines_of (line ++ 13 ∷ 10 ∷ rest) ≡ line ∷ lines_of rest
 written_return line rest whole = written line (13 ∷ 10 ∷ rest) rest whole (return rest)
+
+-- A newline.
+abbrev pub is_newline : ℕ → Bool
+is_newline c = eqb c 10
+
+-- An octet that ends a line, or may belong to a line's end.
+abbrev pub ends_line : ℕ → Bool
+ends_line c = eqb c 10 || eqb c 13
+
+pub ends_none : (c : ℕ) → (c ≡ 10 → ⊥) → (c ≡ 13 → ⊥) → ends_line c ≡ false
+ends_none c newline return = or_from (eqb c 10) (eqb c 13) (ne_eqb c 10 newline) (ne_eqb c 13 return)
+
+-- An octet of the text is one of these.
+abbrev pub has_line_end : List ℕ → Bool
+has_line_end text = list_any ends_line text
+
+-- A text without any is a line, and so is one behind what has no newline.
+pub line_plain : (line : List ℕ) → has_line_end line ≡ false → is_line line ≡ true
+line_plain [] none = refl
+line_plain (c ∷ []) none = not_from_false (ends_line c) (or_parts (ends_line c) false none).0
+line_plain (c ∷ d ∷ line) none =
+    let parts = or_parts (ends_line c) (has_line_end (d ∷ line)) none in
+    and_from (not (eqb c 10)) (is_line (d ∷ line)) (not_from_false (eqb c 10) (or_parts (eqb c 10) (eqb c 13) parts.0).0) (line_plain (d ∷ line) parts.1)
+
+pub line_behind : (front : List ℕ) (c : ℕ) (line : List ℕ) → list_any is_newline front ≡ false → has_line_end (c ∷ line) ≡ false → is_line (front ++ c ∷ line) ≡ true
+line_behind [] c line whole none = line_plain (c ∷ line) none
+line_behind (d ∷ []) c line whole none =
+    and_from (not (eqb d 10)) (is_line (c ∷ line)) (not_from_false (eqb d 10) (or_parts (eqb d 10) false whole).0) (line_plain (c ∷ line) none)
+line_behind (d ∷ e ∷ front) c line whole none =
+    let parts = or_parts (eqb d 10) (list_any is_newline (e ∷ front)) whole in
+    and_from (not (eqb d 10)) (is_line (e ∷ (front ++ c ∷ line))) (not_from_false (eqb d 10) parts.0) (line_behind (e ∷ front) c line parts.1 none)
+
+pub none_joined : (a b : List ℕ) → has_line_end a ≡ false → has_line_end b ≡ false → has_line_end (a ++ b) ≡ false
+none_joined a b first second = list_any-append ends_line a b ∙ or_from (has_line_end a) (has_line_end b) first second
