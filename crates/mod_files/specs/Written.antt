@@ -20,25 +20,28 @@ pub record User : Type 0 where
   pub password : List ℕ
   pub replies : List Pair
 
--- The check item of a password, and its text.
+-- The check item of a password.
 abbrev pub password_item : List ℕ → Item
 password_item password = record { attr = cleartext_password; op = op.Set; value = value.Text password }
 
+-- The text of a password's check item.
 abbrev pub password_text : List ℕ → Definitions → List ℕ
 password_text password dict = attr_text cleartext_password dict ++ (codes " := " ++ quoted password)
 
--- The first line of a user, and the lines of reply pairs, each with its line end.
+-- The first line of a user.
 abbrev pub head_text : User → Definitions → List ℕ
 head_text user dict = user.name ++ 32 ∷ password_text user.password dict
 
+-- The lines of reply pairs, each with its line end.
 abbrev pub replies_text : List Pair → Definitions → List ℕ
 replies_text [] dict = []
 replies_text (pair ∷ pairs) dict = 9 ∷ (pair_text pair dict ++ 10 ∷ replies_text pairs dict)
 
--- The text of a user, and of many.
+-- The text of a user.
 abbrev pub user_text : User → Definitions → List ℕ
 user_text user dict = head_text user dict ++ 10 ∷ replies_text user.replies dict
 
+-- The text of many users.
 abbrev pub users_text : List User → Definitions → List ℕ
 users_text [] dict = []
 users_text (user ∷ users) dict = user_text user dict ++ users_text users dict
@@ -71,5 +74,6 @@ pub record IsWritable (user : User) (dict : Definitions) : Type 0 where
   pub password : AreOctets user.password
   pub replies : AllByRecursion (λ (pair : Pair). IsReplyPair pair dict) user.replies
 
+-- All of the users can be written.
 abbrev pub AreWritable : List User → Definitions → Type 0
 AreWritable users dict = AllByRecursion (λ (user : User). IsWritable user dict) users

@@ -7,5 +7,6 @@ use Rattle.rad_dict.specs.Base.{base_definitions}
 abbrev pub reading_of : ℕ → Reading
 reading_of octets = record { dict = base_definitions; vendors = []; present = None; octets = octets }
 
+-- The same before any octet is read.
 abbrev pub first_reading : Reading
 first_reading = reading_of 0

@@ -23,16 +23,19 @@ use Rattle.rad_dict.specs.NameForms.{is_attr_name, is_value_name}
 use Rattle.rad_dict.specs.BaseAttributes.{standard_attrs, names_of}
 use Rattle.rad_dict.specs.Lines.{Statement, nothing, attribute, value, vendor, begins, ends}
 
--- One more attribute, named value or vendor; another present vendor.
+-- One more attribute.
 abbrev pub with_attr : AttrDef → Reading → Reading
 with_attr def reading = record reading { dict = record { attrs = reading.dict.attrs ++ def ∷ []; values = reading.dict.values } }
 
+-- One more named value.
 abbrev pub with_value : ValueDef → Reading → Reading
 with_value def reading = record reading { dict = record { attrs = reading.dict.attrs; values = reading.dict.values ++ def ∷ [] } }
 
+-- One more vendor.
 abbrev pub with_vendor : Vendor → Reading → Reading
 with_vendor one reading = record reading { vendors = reading.vendors ++ one ∷ [] }
 
+-- Another present vendor, or none.
 abbrev pub with_present : Option Vendor → Reading → Reading
 with_present present reading = record reading { present = present }
 

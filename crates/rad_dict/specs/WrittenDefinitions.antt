@@ -32,10 +32,11 @@ abbrev pub attr_statements : Option Vendor → AttrDef → List Statement
 attr_statements None def = attribute def.name def.id.number def.kind ∷ []
 attr_statements (Some one) def = begins one.name ∷ attribute def.name def.id.number def.kind ∷ ends one.name ∷ []
 
--- The statement of a vendor, and that of a value.
+-- The statement of a vendor.
 abbrev pub vendor_statement : Vendor → Statement
 vendor_statement one = vendor one.name one.number
 
+-- The statement of a value.
 abbrev pub value_statement : WrittenValue → Statement
 value_statement written = value written.of_attr written.def.name written.def.number
 
@@ -52,10 +53,11 @@ defined_by writing = record {
   values = base_definitions.values ++ map (λ (written : WrittenValue). written.def) writing.values;
 }
 
--- The dictionary with one more attribute, and with one more value.
+-- The dictionary with one more attribute.
 abbrev pub with_attr : AttrDef → Definitions → Definitions
 with_attr def dict = record { attrs = dict.attrs ++ def ∷ []; values = dict.values }
 
+-- The dictionary with one more value.
 abbrev pub with_value : ValueDef → Definitions → Definitions
 with_value def dict = record { attrs = dict.attrs; values = dict.values ++ def ∷ [] }
 
@@ -75,6 +77,7 @@ pub record IsNewAttr (vendors : List Vendor) (dict : Definitions) (written : Wri
   pub number : id_of written.of_vendor written.def.id.number ≡ Some written.def.id
   pub new : attr_named written.def.name dict ≡ None
 
+-- Each attribute is new, behind those before it.
 abbrev pub AreNewAttrs : List Vendor → Definitions → List WrittenAttr → Type 0
 AreNewAttrs vendors dict [] = Unit {0}
 AreNewAttrs vendors dict (written ∷ more) = IsNewAttr vendors dict written × AreNewAttrs vendors (with_attr written.def dict) more
@@ -90,6 +93,7 @@ pub record IsNewValue (dict : Definitions) (written : WrittenValue) : Type 0 whe
   pub within : written.def.number < limit
   pub new : number_of written.def.attr written.def.name dict ≡ None
 
+-- Each value is new, behind those before it.
 abbrev pub AreNewValues : Definitions → List WrittenValue → Type 0
 AreNewValues dict [] = Unit {0}
 AreNewValues dict (written ∷ more) = IsNewValue dict written × AreNewValues (with_value written.def dict) more

@@ -26,6 +26,7 @@ octets_left (UnknownAttr left) = left
 octets_left (BadOperator left) = left
 octets_left (BadValue left) = left
 
+-- The same of an error.
 abbrev pub error_left : ReadError Wrong → ℕ
 error_left errors.NoMemory = 0
 error_left (errors.Wrong wrong) = octets_left wrong
@@ -51,6 +52,7 @@ part_behind_blanks (c ∷ rest) dict = elim (after_line_end (c ∷ rest)) [
   | None ↦ pair_at (c ∷ rest) dict >>= λ pair. Ok (Some pair.0, pair.1)
 ]
 
+-- The same from before the blanks on.
 unfoldable pub part_at : List ℕ → Definitions → Result (Option Item × List ℕ) Wrong
 part_at text dict = part_behind_blanks (after_blanks text) dict
 

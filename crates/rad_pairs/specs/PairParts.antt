@@ -21,10 +21,11 @@ abbrev pub is_missing : List ℕ → Bool
 is_missing [] = true
 is_missing (c ∷ rest) = is_some (after_separator (c ∷ rest))
 
--- A word that is read for the attribute, and a word that is a pattern: both have to be there.
+-- A word that is read for the attribute, which has to be there.
 abbrev pub value_in : AttrKind → Option (List ℕ) → Definitions → Option Value
 value_in attr word dict = word >>= λ text. value_of attr.kind attr.id text dict
 
+-- A word that is a pattern, which has to be there.
 abbrev pub pattern_in : Option (List ℕ) → Option Value
 pattern_in word = option_map value.Text word
 

@@ -44,10 +44,11 @@ octets_of text = elim (if is_hexadecimal text then digit_pairs (drop 2 text) els
 unfoldable pub number_in : AttrId → List ℕ → Definitions → Option ℕ
 number_in attr text dict = elim (rows.number_of attr text dict) [ Some number ↦ Some number | None ↦ numeral_of text ]
 
--- A number in its type's range.
+-- A number of 8 bits.
 abbrev pub byte_of : ℕ → Option Value
 byte_of number = if nat_lt number 256 then Some (value.Byte number) else None
 
+-- A number of 16 bits.
 abbrev pub short_of : ℕ → Option Value
 short_of number = if nat_lt number 65536 then Some (value.Short number) else None
 

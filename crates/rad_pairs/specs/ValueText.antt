@@ -21,6 +21,7 @@ escaped c =
     if c == 34 || c == 92 then 92 ∷ c ∷ []
     else (if is_in_range 32 126 c then c ∷ [] else 92 ∷ (48 + c / 64) ∷ (48 + c / 8 % 8) ∷ (48 + c % 8) ∷ [])
 
+-- A text in double quotes.
 unfoldable pub quoted : List ℕ → List ℕ
 quoted text = 34 ∷ (flat_map escaped text ++ 34 ∷ [])
 
@@ -28,6 +29,7 @@ quoted text = 34 ∷ (flat_map escaped text ++ 34 ∷ [])
 abbrev pub two_digits : ℕ → List ℕ
 two_digits c = digit_char (c / 16) ∷ digit_char (c % 16) ∷ []
 
+-- Octets behind `0x`.
 unfoldable pub hexadecimal : List ℕ → List ℕ
 hexadecimal octets = 48 ∷ 120 ∷ flat_map two_digits octets
 

@@ -8,10 +8,11 @@ unfoldable pub folder_len : List ℕ → ℕ
 folder_len [] = 0
 folder_len (c ∷ rest) = if folder_len rest == 0 then (if c == 47 then 1 else 0) else suc (folder_len rest)
 
--- A path's folder, with the slash at its end, and its last part behind that.
+-- A path's folder, with the slash at its end.
 abbrev pub folder : List ℕ → List ℕ
 folder path = take (folder_len path) path
 
+-- A path's last part, behind its folder.
 abbrev pub last_part : List ℕ → List ℕ
 last_part path = drop (folder_len path) path
 
