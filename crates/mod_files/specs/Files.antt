@@ -41,6 +41,7 @@ edit_op op.None = None
 abbrev pub edit_of : ListName → Item → Option Edit
 edit_of list item = option_map (λ (o : EditOp). record { list = list; attr = item.attr; op = o; value = item.value }) (edit_op item.op)
 
+-- The edits of a list that items stand for, in their order.
 abbrev pub edits_of : ListName → List Item → List Edit
 edits_of list items = filter_map (edit_of list) items
 
@@ -56,6 +57,7 @@ all_tried lists (edit ∷ edits) = elim (tried lists edit) [
   | Some more ↦ all_tried more edits
 ]
 
+-- The code of a run that did all edits, or met a full list.
 abbrev pub code_of : Bool → Code
 code_of true = code.Ok
 code_of false = code.Fail

@@ -1,8 +1,10 @@
 pub mod Lookups
 pub mod PlacesLemmas
+pub mod NameWords
+pub mod WrittenWords
+pub mod WrittenFiles
+pub mod WrittenDefinitions
 pub mod Indexed
-pub mod Statements
-pub mod FirstLines
 pub mod Tellings
 pub mod Readings
 pub mod Growing

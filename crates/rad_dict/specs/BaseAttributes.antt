@@ -10,12 +10,15 @@ use Rattle.rad_words.specs.declared.attributes.Space.TheVariants.{Standard, Inte
 use Rattle.rad_dict.specs.declared.definitions.AttrDef.{AttrDef}
 use Rattle.rad_dict.specs.Rows.{attr_def}
 
+-- A standard attribute, by its number, name and kind.
 abbrev pub standard : ℕ → String → Kind → AttrDef
 standard number name kind = attr_def Standard number kind (codes name)
 
+-- An internal attribute, by its number, name and kind.
 abbrev pub internal : ℕ → String → Kind → AttrDef
 internal number name kind = attr_def Internal number kind (codes name)
 
+-- The standard attributes, by their numbers (RFC 2865 section 5, RFC 2866 section 5, RFC 2869 section 5.3, RFC 3579 section 3.2).
 unfoldable pub standard_attrs : List AttrDef
 standard_attrs =
     standard 1 "User-Name" Text
@@ -74,6 +77,7 @@ standard_attrs =
     ∷ standard 80 "Message-Authenticator" Octets
     ∷ []
 
+-- The internal attributes, which never go on the wire.
 unfoldable pub internal_attrs : List AttrDef
 internal_attrs =
     internal 1 "Auth-Type" Text
@@ -101,5 +105,6 @@ base_attrs = standard_attrs ++ internal_attrs
 abbrev pub names_of : List AttrDef → List Row
 names_of attrs = map (λ (row : AttrDef). record { name = row.name; number = row.id.number }) attrs
 
+-- The kinds of attributes, in their order.
 abbrev pub kinds_of : List AttrDef → List Kind
 kinds_of attrs = map (λ (row : AttrDef). row.kind) attrs

@@ -9,9 +9,11 @@ use Rattle.rad_words.specs.Names.{Row}
 use Rattle.rad_dict.specs.declared.definitions.ValueDef.{ValueDef}
 use Rattle.rad_dict.specs.Rows.{value_def}
 
+-- A named value of a standard attribute.
 abbrev pub named : ℕ → ℕ → String → ValueDef
 named attr number name = value_def attr number (codes name)
 
+-- The named values of the base, attribute by attribute.
 unfoldable pub base_values : List ValueDef
 base_values =
     named 6 1 "Login-User"

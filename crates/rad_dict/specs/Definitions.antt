@@ -24,6 +24,7 @@ definition_of id d = find (λ (row : AttrDef). same_attr row.id id) d.attrs
 abbrev pub is_number_of : AttrId → ℕ → ValueDef → Bool
 is_number_of id number row = same_attr row.attr id && row.number == number
 
+-- The row is the attribute's value of this name.
 abbrev pub is_name_of : AttrId → List ℕ → ValueDef → Bool
 is_name_of id name row = same_attr row.attr id && str_eq_ignore_ascii_case row.name name
 

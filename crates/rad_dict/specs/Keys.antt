@@ -21,6 +21,7 @@ octets_key key (octet ∷ octets) = octets_key (key_with key octet) octets
 abbrev pub name_key : ℕ → List ℕ → ℕ
 name_key key name = octets_key key (str_to_ascii_lowercase name)
 
+-- The key of a space.
 abbrev pub space_key : Space → ℕ
 space_key Standard = 0
 space_key (Vendor vendor) = vendor + 1
@@ -34,11 +35,14 @@ attr_key id = key_with (space_key id.space) id.number
 abbrev pub by_name : AttrDef → ℕ
 by_name row = name_key 0 row.name
 
+-- The key of an attribute's row.
 abbrev pub by_attr : AttrDef → ℕ
 by_attr row = attr_key row.id
 
+-- The key of a value's row, by its number.
 abbrev pub by_value : ValueDef → ℕ
 by_value row = key_with (attr_key row.attr) row.number
 
+-- The key of a value's row, by its name.
 abbrev pub by_value_name : ValueDef → ℕ
 by_value_name row = name_key (attr_key row.attr) row.name

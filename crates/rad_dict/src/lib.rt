@@ -7,23 +7,24 @@
 mod attr_rows;
 mod base_attributes;
 mod base_values;
+mod change;
 mod definitions;
 mod dictionary;
 mod fault;
 mod including;
 mod index;
 mod keys;
+mod laws;
 mod line;
-mod line_numbers;
 mod line_words;
 mod name_forms;
 mod reading;
 mod search;
 mod step;
-mod text_lines;
 mod value_rows;
 mod vendors;
 
 pub use definitions::{AttrDef, ValueDef};
 pub use dictionary::Dict;
 pub use fault::DictFault;
+pub use laws::written_dictionaries_are_read_back;

@@ -16,17 +16,20 @@ use Rattle.rad_value.specs.declared.values.Value.{Value}
 use Rattle.rad_value.specs.declared.values.Value.TheVariants as value
 use Rattle.rad_dict.specs.declared.definitions.ValueDef.{ValueDef}
 use Rattle.rad_dict.specs.Definitions.{Definitions, is_name_of, is_number_of, name_of, number_of}
-use Rattle.rad_pairs.specs.Numerals.{◌>>=◌, numeral_of}
+use Rattle.rad_text.specs.Find.{◌>>=◌}
+use Rattle.rad_text.specs.Numerals.{numeral_of}
 use Rattle.rad_pairs.specs.ValueText.{number_text, value_text}
 use Rattle.rad_pairs.specs.ValueReading.{number_in, byte_of, short_of, value_of}
 use Rattle.rad_dict.specs.EveryDictionary.{IsDictionary}
 use Rattle.rad_value.specs.Kinds.{kind_of_value}
 use Rattle.rad_pairs.specs.ReadingBack.{InRange}
 use Rattle.rad_dict.proofs.Lookups.{find_fits, find_finds, same_itself, same_lower, same_attr_is}
-use Rattle.rad_pairs.proofs.Decimals.{number_again}
-use Rattle.rad_pairs.proofs.Names.{IsName, value_name_is, digit_range, decimal_name, no_hexadecimal}
+use Rattle.rad_text.proofs.Decimals.{number_again}
+use Rattle.rad_text.proofs.AddressLaws.{address_again}
+use Rattle.rad_pairs.proofs.Names.{IsName, value_name_is, decimal_name}
+use Rattle.rad_text.proofs.NumeralLaws.{digit_range, numeral_again}
 use Rattle.rad_pairs.proofs.Hexadecimals.{octets_again, hexadecimal_name}
-use Rattle.rad_pairs.proofs.Addresses.{address_again, address_name}
+use Rattle.rad_pairs.proofs.Addresses.{address_name}
 
 -- A name that is the same as digits, case aside, is those digits.
 same_digit : (c d : ℕ) → (48 ≤ d) × (d < 58) → to_ascii_lowercase c ≡ to_ascii_lowercase d → c ≡ d
@@ -67,12 +70,6 @@ digits_unnamed attr n dict plain lt (Some row) e =
     let same = (and_parts (same_attr row.attr attr) (str_eq_ignore_ascii_case row.name (decimal n)) here.1).1 in
     let digits = all_digits row.name (decimal n) (decimal_is_IsNumeral n (omega arith)).0.1 (same_lower row.name (decimal n) same) in
     absurd (true≢false (sym digits ∙ (value_name_is row.name (plain.value_names row here.0)).1))
-
-numeral_again : (n : ℕ) → n < 2 ^ 32 → numeral_of (decimal n) ≡ Some n
-unfolding numeral_of
-numeral_again n lt =
-    let none : eqb (slice_index (decimal n) 1) 120 ≡ false = no_hexadecimal (decimal n) (decimal_is_IsNumeral n (omega arith)).0.1 in
-    cond-false _ _ _ (and_right (eqb (slice_index (decimal n) 0) 48) (eqb (slice_index (decimal n) 1) 120) none) ∙ number_again n lt
 
 decimal_again : (attr : AttrId) (n : ℕ) (dict : Definitions) → IsDictionary dict → n < 2 ^ 32 → number_in attr (decimal n) dict ≡ Some n
 unfolding number_in

@@ -25,10 +25,11 @@ unnamed_kind Internal number = None
 abbrev pub kind_of : AttrId → Definitions → Option Kind
 kind_of attr dict = elim (definition_of attr dict) [ Some row ↦ Some row.kind | None ↦ unnamed_kind attr.space attr.number ]
 
--- A value in the range of its type.
+-- Numbers that are octets.
 abbrev pub AreOctets : List ℕ → Type 0
 AreOctets octets = AllByRecursion (λ c. c < 256) octets
 
+-- A value in the range of its type.
 abbrev pub InRange : Value → Type 0
 InRange (value.Text text) = AreOctets text
 InRange (value.Octets octets) = AreOctets octets

@@ -1,0 +1,44 @@
+-- Whole numerals, by their digits.
+use Rattle.std.proofs.Common.{◌≡◌, ℕ, ◌^◌, ◌<◌, ◌≤◌, Bool, true, false, cond, eqb, ltb, List, [], ◌∷◌, length, Some, None, refl, sym, ap, ◌∙◌, arith}
+use Rattle.std.specs.Str.Parse.{AllDigits, digits_value_after}
+use Rattle.std.specs.Prelude.{slice_index}
+use Rattle.std.specs.Char.{digit_value}
+use Rattle.std.specs.Fmt.{decimal}
+use Rattle.std.proofs.lemmas.Bool.Decides.{nat_tests}
+use Rattle.std.proofs.lemmas.Fmt.{decimal_is_IsNumeral}
+use Rattle.std.proofs.lemmas.Bool.{cond-false, lt-ltb, and_right, ne_eqb}
+use Rattle.std.proofs.lemmas.List.{append-nil}
+use Rattle.rad_text.specs.Find.{◌>>=◌}
+use Rattle.rad_text.specs.Numerals.{digits_at, begins_with_digit, fitting, whole, number_at, number_of, numeral_of, below}
+use Rattle.rad_text.proofs.Decimals.{digits_read, number_again}
+
+begins : (radix : ℕ) (digits : List ℕ) → 0 < length digits → AllDigits radix digits → begins_with_digit radix digits ≡ true
+begins radix [] long all = absurd (omega arith)
+begins radix (c ∷ digits) long all = lt-ltb (digit_value c) radix all.0
+
+by_limit : (fits : Bool) (number : ℕ) → (cond fits (Some (number, [])) None >>= whole) ≡ cond fits (Some number) None
+by_limit true number = refl
+by_limit false number = refl
+
+pub numeral_read : (radix : ℕ) (digits : List ℕ) → 0 < length digits → AllDigits radix digits → number_of radix digits ≡ below 4294967296 (digits_value_after radix 0 digits)
+unfolding number_of number_at
+numeral_read radix digits long all =
+    let read : digits_at radix 0 digits ≡ (digits_value_after radix 0 digits, []) = ap (digits_at radix 0) (sym (append-nil digits)) ∙ digits_read radix 0 digits [] all refl in
+    ap (λ b. cond b (fitting (digits_at radix 0 digits)) None >>= whole) (begins radix digits long all)
+    ∙ ap (λ n. fitting n >>= whole) read
+    ∙ by_limit (ltb (digits_value_after radix 0 digits) 4294967296) (digits_value_after radix 0 digits)
+
+-- Digits are no hexadecimal number.
+pub digit_range : (c : ℕ) → digit_value c < 10 → (48 ≤ c) × (c < 58)
+digit_range c lt = grind (arith, nat_tests)
+
+no_hexadecimal : (digits : List ℕ) → AllDigits 10 digits → eqb (slice_index digits 1) 120 ≡ false
+no_hexadecimal [] all = refl
+no_hexadecimal (c ∷ []) all = refl
+no_hexadecimal (c ∷ d ∷ digits) all = ne_eqb d 120 (λ e. omega (arith, (digit_range d all.1.0).1, e))
+
+pub numeral_again : (n : ℕ) → n < 2 ^ 32 → numeral_of (decimal n) ≡ Some n
+unfolding numeral_of
+numeral_again n lt =
+    let none : eqb (slice_index (decimal n) 1) 120 ≡ false = no_hexadecimal (decimal n) (decimal_is_IsNumeral n (omega arith)).0.1 in
+    cond-false _ _ _ (and_right (eqb (slice_index (decimal n) 0) 48) (eqb (slice_index (decimal n) 1) 120) none) ∙ number_again n lt
