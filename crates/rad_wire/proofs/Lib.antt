@@ -3,5 +3,7 @@ pub mod Replies
 pub mod VendorParts
 pub mod PairWalks
 pub mod Fitting
+pub mod Drafts
+pub mod Requests
 pub mod AttributePairs
 pub mod RepliesDecoded

@@ -11,3 +11,5 @@ pub mod Reply
 pub mod Appended
 pub mod Carried
 pub mod Accepts
+pub mod Request
+pub mod Draft

@@ -6,12 +6,16 @@
 #![tactic(auto)]
 
 mod accepting;
+mod attribute_writing;
 mod decoding;
+mod draft;
 mod laws;
 mod proxy_state;
 mod reply;
 mod reply_fault;
 mod reply_pairs;
+mod request;
+mod request_fault;
 mod vendor;
 mod wire_value;
 
@@ -25,3 +29,5 @@ pub use rad_packet::{
 };
 pub use reply::reply_bytes;
 pub use reply_fault::ReplyFault;
+pub use request::request_bytes;
+pub use request_fault::RequestFault;
