@@ -1,7 +1,6 @@
 -- A request's attributes, written pair after pair.
-use Rattle.std.proofs.Common.{◌≡◌, ℕ, ◌+◌, ◌≤◌, Bool, true, false, not, cond, ◌||◌, ◌&&◌, List, [], ◌∷◌, ◌++◌, length, take, drop, filter, refl, sym, ap, ◌∙◌, append_assoc, arith}
-use Rattle.std.specs.Prelude.{◌==◌, slice_get, Some, None}
-use Rattle.std.specs.Int.{w32, to_be_bytes}
+use Rattle.std.proofs.Common.{◌≡◌, ℕ, ◌+◌, ◌≤◌, Bool, true, false, not, cond, ◌||◌, ◌&&◌, List, [], ◌∷◌, ◌++◌, length, drop, filter, refl, sym, ap, ◌∙◌, append_assoc}
+use Rattle.std.specs.Prelude.{◌==◌, slice_get, Some}
 use Rattle.std.specs.List.{flat_map, list_any}
 use Rattle.std.proofs.lemmas.List.{append-nil, drop_all}
 use Rattle.std.proofs.lemmas.List.Elements.{filter-append}
@@ -13,7 +12,7 @@ use Rattle.rad_wire.specs.Draft.{IsWritten, remaining}
 use Rattle.rad_wire.specs.declared.request_fault.RequestFault.{RequestFault}
 use Rattle.rad_wire.specs.declared.request_fault.RequestFault.TheVariants as faults
 use Rattle.rad_wire.specs.Request.{Frame, PasswordRefused, asked_for, is_signature, long_password_of, long_passwords, signed_once}
-use Rattle.rad_wire.proofs.Fitting.{drop_at_get, none_past}
+use Rattle.rad_wire.proofs.Fitting.{drop_at_get}
 
 -- ---- one attribute at most
 

@@ -5,5 +5,6 @@ pub mod PairWalks
 pub mod Fitting
 pub mod Drafts
 pub mod Requests
+pub mod Answering
 pub mod AttributePairs
 pub mod RepliesDecoded

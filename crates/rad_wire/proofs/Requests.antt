@@ -1,16 +1,15 @@
 -- Requests: a header, and the attributes of pairs, signed.
-use Rattle.std.proofs.Common.{◌≡◌, ℕ, ◌+◌, ◌≤◌, Bool, true, false, not, cond, List, [], ◌∷◌, ◌++◌, length, take, drop, filter, replicate, refl, sym, ap, ◌∙◌, arith}
+use Rattle.std.proofs.Common.{◌≡◌, ℕ, ◌+◌, ◌≤◌, Bool, true, false, not, cond, List, [], ◌∷◌, length, take, filter, replicate, refl, arith}
 use Rattle.std.specs.Prelude.{◌==◌, nat_lt}
 use Rattle.std.specs.List.{flat_map, AllByRecursion}
 use Rattle.std.proofs.lemmas.Bool.{eq-eqb, ne_eqb}
-use Rattle.std.proofs.lemmas.List.{drop_at, take_at, length-append, length-take}
+use Rattle.std.proofs.lemmas.List.{drop_at, length-append, length-take}
 use Rattle.std.proofs.lemmas.List.Elements.{All-filter, All-from_recursion, recursion_from_All}
 use Rattle.md5.proofs.StandardFacts.{length-md5}
 use Rattle.rad_words.specs.declared.attributes.Space.{Space}
 use Rattle.rad_words.specs.declared.attributes.Space.TheVariants.{Standard, Vendor, Internal}
 use Rattle.rad_value.specs.declared.values.Pair.{Pair}
-use Rattle.rad_packet.specs.Packet.{Attribute, IsPacket, IsWellFormed, spelled}
-use Rattle.rad_packet.specs.Octets.{reply_head}
+use Rattle.rad_packet.specs.Packet.{Attribute, IsPacket, spelled}
 use Rattle.rad_packet.specs.Signatures.{accounting_authenticator, message_authenticator}
 use Rattle.rad_packet.proofs.Intact.{right_length}
 use Rattle.rad_wire.specs.Request.{Frame, asked_attributes, asked_for, asked_value, is_signature, packet_octets, request_attributes, request_of, signed_once, unsigned_request}

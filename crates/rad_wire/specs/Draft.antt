@@ -1,5 +1,5 @@
 -- Attributes of a request as they are written one after another. Only private clauses cite this.
-use Rattle.std.specs.Prelude.{ℕ, ◌≡◌, ◌==◌, ◌&&◌, ◌||◌, Bool, true, false, not, if◌then◌else◌, List, [], ◌∷◌, ◌++◌, filter}
+use Rattle.std.specs.Prelude.{ℕ, ◌≡◌, ◌||◌, Bool, not, if◌then◌else◌, List, ◌++◌, filter}
 use Rattle.std.specs.List.{flat_map, list_any}
 use Rattle.rad_packet.specs.Packet.{Attribute, spelled}
 use Rattle.rad_wire.specs.declared.draft.Asking.{Asking}

@@ -1,12 +1,11 @@
 -- The octets of a request: RFC 2865 sections 3, 5.2, 5.3 and 5.26, RFC 2866 section 3, RFC 3579 section 3.2.
-use Rattle.std.specs.Prelude.{ℕ, zero, suc, ◌≡◌, ◌<◌, ◌+◌, ◌==◌, ◌&&◌, ◌||◌, Bool, true, false, not, nat_lt, if◌then◌else◌, List, [], ◌∷◌, ◌++◌, length, take, filter, replicate}
-use Rattle.std.specs.List.{flat_map, list_any}
+use Rattle.std.specs.Prelude.{ℕ, ◌≡◌, ◌<◌, ◌==◌, ◌&&◌, Bool, not, nat_lt, if◌then◌else◌, List, [], ◌∷◌, ◌++◌, length, take, filter, replicate}
+use Rattle.std.specs.List.{flat_map}
 use Rattle.std.specs.Option.{option_map_or}
 use Rattle.md5.specs.Md5.{md5}
 use Rattle.rad_words.specs.declared.attributes.Space.{Space}
 use Rattle.rad_words.specs.declared.attributes.Space.TheVariants.{Standard, Vendor, Internal}
 use Rattle.rad_value.specs.declared.values.Pair.{Pair}
-use Rattle.rad_value.specs.declared.values.Value.{Value}
 use Rattle.rad_value.specs.Pairs.{first_value}
 use Rattle.rad_packet.specs.Packet.{Attribute, spelled}
 use Rattle.rad_packet.specs.Hiding.{carried, hidden}

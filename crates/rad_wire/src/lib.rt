@@ -21,7 +21,10 @@ mod wire_value;
 
 pub use accepting::accepts_reply;
 pub use decoding::decode;
-pub use laws::{replies_are_decoded, replies_are_packets, vendor_parts_have_one_reading};
+pub use laws::{
+    accepted_replies_have_no_fault, replies_are_accepted, replies_are_decoded, replies_are_packets,
+    requests_are_signed, vendor_parts_have_one_reading,
+};
 pub use rad_packet::{
     Checked, Client, DropCause, HideFault, RevealFault, attributes_have_one_reading,
     authentic_has_no_cause, check, hidden_passwords_are_revealed, hide,

@@ -1,4 +1,4 @@
-use Rattle.std.proofs.Common.{◌≡◌, ◌≤◌, ◌+◌, ℕ, List, length, sym, ap, ◌∙◌, arith}
+use Rattle.std.proofs.Common.{◌≡◌, ◌≤◌, ◌+◌, length, ap, ◌∙◌, arith}
 use Rattle.rad_packet.specs.Hiding.{carried}
 use Rattle.rad_wire.specs.Request.{challenge_of, frame_of, request_octets}
 use Rattle.rad_wire.proofs.Requests.{body_size, finished_attributes, request_made}
