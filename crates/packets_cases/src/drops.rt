@@ -7,26 +7,35 @@ use rad_packet::{Checked, Client, DropCause, check};
 use shared_cases::{Case, Subject};
 use std::alloc::Global;
 
-/// A client's address or `-` for a stranger, and a datagram's octets, for what `check` says of them.
+/// A kind of listener, a client's secret or `-` for a stranger, and a datagram's octets, for what `check` says of them.
 #[derive(Drop)]
 pub struct DropCases;
 
 impl Subject for DropCases {
     fn answer(&mut self, alloc: Global, case: &Case) -> Result<Vec<u8>, NoMemory> {
-        let sender = sender(alloc, case.cell(0))?;
-        let octets = octets_of(alloc, case.cell(1))?;
-        match check(octets.as_slice(), sender.as_ref(), ListenKind::Auth) {
+        let sender = sender(alloc, case.cell(1))?;
+        let octets = octets_of(alloc, case.cell(2))?;
+        match check(octets.as_slice(), sender.as_ref(), kind_of(case.cell(0))) {
             Ok(packet) => shown(alloc, &packet),
             Err(cause) => Ok(Vec::from_slice(alloc, word_of(cause))?),
         }
     }
 }
 
-/// The client of an address, or none for a stranger. Its secret isn't looked at.
-fn sender(alloc: Global, address: &[u8]) -> Result<Option<Client>, NoMemory> {
-    Ok(match address {
+/// The kind of listener of this word; a control listener for any but `auth` and `acct`.
+fn kind_of(word: &[u8]) -> ListenKind {
+    match word {
+        b"auth" => ListenKind::Auth,
+        b"acct" => ListenKind::Acct,
+        _ => ListenKind::Control,
+    }
+}
+
+/// The client of a secret, or none for a stranger.
+fn sender(alloc: Global, secret: &[u8]) -> Result<Option<Client>, NoMemory> {
+    Ok(match secret {
         b"-" => None,
-        _ => Some(client(alloc, address, b"secret")?),
+        _ => Some(client(alloc, b"192.168.1.16", secret)?),
     })
 }
 
@@ -45,5 +54,7 @@ fn word_of(cause: DropCause) -> &'static [u8] {
         DropCause::BadLength => b"BadLength",
         DropCause::WrongCode => b"WrongCode",
         DropCause::BadAttribute => b"BadAttribute",
+        DropCause::BadAuthenticator => b"BadAuthenticator",
+        DropCause::BadMessageAuthenticator => b"BadMessageAuthenticator",
     }
 }

@@ -10,10 +10,15 @@ use std::alloc::Global;
 /// The most pairs of a case.
 const MOST: u32 = 10_000;
 
-/// Adds the pairs of a text's lines to the reply list. False where a line is no pair, or there are too many.
-pub fn push_reply_pairs(alloc: Global, lists: &mut Lists, text: &[u8]) -> Result<bool, NoMemory> {
+/// Adds the pairs of a text's lines to this list. False where a line is no pair, or there are too many.
+pub fn push_pairs(
+    alloc: Global,
+    lists: &mut Lists,
+    list: ListName,
+    text: &[u8],
+) -> Result<bool, NoMemory> {
     for line in text.split(|octet| *octet == b'\n') {
-        if !line.is_empty() && !push_line(alloc, lists, line)? {
+        if !line.is_empty() && !push_line(alloc, lists, list, line)? {
             return Ok(false);
         }
     }
@@ -21,7 +26,12 @@ pub fn push_reply_pairs(alloc: Global, lists: &mut Lists, text: &[u8]) -> Result
 }
 
 /// Adds the pair of a line, as often as it says.
-fn push_line(alloc: Global, lists: &mut Lists, line: &[u8]) -> Result<bool, NoMemory> {
+fn push_line(
+    alloc: Global,
+    lists: &mut Lists,
+    list: ListName,
+    line: &[u8],
+) -> Result<bool, NoMemory> {
     let (front, value) = halves(line, b'=');
     let (attribute, count) = match halves(front, b'*') {
         (count, Some(attribute)) => (attribute, decimal(count)),
@@ -32,11 +42,11 @@ fn push_line(alloc: Global, lists: &mut Lists, line: &[u8]) -> Result<bool, NoMe
         return Ok(false);
     };
     for _ in 0..count {
-        if lists.len(ListName::Reply) >= MOST {
+        if lists.len(list) >= MOST {
             return Ok(false);
         }
         let value = value.try_clone(alloc)?;
-        lists.push(ListName::Reply, Pair { attr, value })?;
+        lists.push(list, Pair { attr, value })?;
     }
     Ok(true)
 }

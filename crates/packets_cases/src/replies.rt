@@ -1,11 +1,11 @@
 //! `reply_bytes`: the octets of replies.
 
-use crate::pair_reading::push_reply_pairs;
+use crate::pair_reading::push_pairs;
 use crate::request::{client, datagram};
 use crate::spelled::as_wanted;
 use rad_outside::{ListenKind, NoMemory};
 use rad_packet::check;
-use rad_value::Lists;
+use rad_value::{ListName, Lists};
 use rad_wire::reply_bytes;
 use shared_cases::{Case, Subject, decimal};
 use std::alloc::Global;
@@ -17,7 +17,7 @@ pub struct ReplyCases;
 impl Subject for ReplyCases {
     fn answer(&mut self, alloc: Global, case: &Case) -> Result<Vec<u8>, NoMemory> {
         let mut lists = Lists::new(alloc);
-        if push_reply_pairs(alloc, &mut lists, case.text(b"pairs"))? {
+        if push_pairs(alloc, &mut lists, ListName::Reply, case.text(b"pairs"))? {
             reply(alloc, case, &lists)
         } else {
             Ok(Vec::from_slice(alloc, b"a line is no pair")?)

@@ -1,5 +1,8 @@
 pub mod AttributeLists
 pub mod Walks
+pub mod Signing
+pub mod Intact
+pub mod KeyBlocks
 pub mod Datagrams
 pub mod HiddenBlocks
 pub mod TrailingZeros

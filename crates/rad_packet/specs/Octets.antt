@@ -2,7 +2,7 @@
 use Rattle.std.specs.Prelude.{ℕ, ◌≡◌, ◌==◌, ◌+◌, ◌/◌, ◌%◌, List, [], ◌∷◌, ◌++◌, length, filter}
 use Rattle.std.specs.List.{flat_map}
 use Rattle.md5.specs.Md5.{md5}
-use Rattle.rad_packet.specs.Packet.{Attribute, spelled, code_of, id_of, authenticator_of, attributes_of, IsWellFormed}
+use Rattle.rad_packet.specs.Packet.{Attribute, spelled, code_of, id_of, attributes_of, IsWellFormed}
 use Rattle.rad_packet.specs.declared.checking.Checked.{Checked}
 
 -- Code, Identifier and Length of a reply whose attributes are these octets.

@@ -126,7 +126,7 @@ pub fn revealed(
 }
 
 /// A number of octets as an error carries it, cut at the end of 32 bits.
-fn carried(count: usize) -> u32
+pub fn carried(count: usize) -> u32
     ensures { result ≡ carried count }
 {
     u32::try_from(count).unwrap_or(u32::MAX)

@@ -2,7 +2,7 @@
 use Rattle.std.specs.Prelude.{ok_or, unwrap_or}
 use Rattle.std.specs.Option.{option_map, is_none}
 use Rattle.std.specs.List.{cons_option}
-use Rattle.std.proofs.Common.{◌≡◌, ℕ, ◌+◌, ◌<◌, ◌≤◌, Bool, true, false, cond, not, ◌&&◌, ◌||◌, List, [], ◌∷◌, ◌++◌, length, Option, Some, None, codes, refl, ap, ◌∙◌, arith, length-append}
+use Rattle.std.proofs.Common.{◌≡◌, ℕ, ◌+◌, ◌<◌, ◌≤◌, Bool, true, false, cond, not, ◌&&◌, ◌||◌, List, [], ◌∷◌, ◌++◌, length, filter, Option, Some, None, codes, refl, ap, ◌∙◌, arith, length-append}
 use Rattle.std.proofs.lemmas.Bool.{lt-leb}
 use Rattle.std.proofs.lemmas.List.Filters.{length-filter_both}
 use Rattle.std.proofs.lemmas.Slice.Eq.{bytes_eq-Decides}
@@ -12,11 +12,11 @@ use Rattle.rad_words.specs.declared.sections.Section.TheVariants.{Authorize, Aut
 use Rattle.rad_value.specs.declared.values.Pair.{Pair}
 use Rattle.rad_value.specs.declared.edits.Edit.{Edit}
 use Rattle.rad_value.specs.declared.edits.EditOp.{EditOp}
-use Rattle.rad_value.specs.declared.edits.EditOp.TheVariants.{AddIfNone, Set, Append}
+use Rattle.rad_value.specs.declared.edits.EditOp.TheVariants.{AddIfNone, Set, Append, Remove, RemoveAll, Keep}
 use Rattle.rad_value.specs.declared.edits.ListName.TheVariants.{Reply, Control}
 use Rattle.rad_value.specs.Pairs.{is_of}
 use Rattle.rad_value.specs.PairLists.{PairLists, list_of}
-use Rattle.rad_value.specs.Edit.{has_attr, adds, edited_by, lists_edited, tried}
+use Rattle.rad_value.specs.Edit.{has_attr, adds, edited_by, is_equal_pair, is_other_pair, lists_edited, tried}
 use Rattle.rad_pairs.specs.declared.items.Item.{Item}
 use Rattle.rad_wire.specs.Pairs.{requested}
 use Rattle.mod_files.specs.declared.entry.Entry.{Entry}
@@ -51,6 +51,9 @@ put_adds_one p y (x ∷ xs) =
 added_one : (pair : Pair) (pairs : List Pair) → length (pairs ++ pair ∷ []) ≤ length pairs + 1
 added_one pair pairs = omega (arith, length-append pairs (pair ∷ []))
 
+fewer_one : (q : Pair → Bool) (pairs : List Pair) → length (filter q pairs) ≤ length pairs + 1
+fewer_one q pairs = omega (arith, length-filter_both q (λ z. not (q z)) (λ _. refl) pairs)
+
 adds_one : (op : EditOp) (pair : Pair) (pairs : List Pair) → length (edited_by op pair pairs) ≤ length pairs + 1
 adds_one AddIfNone pair pairs =
     elim (has_attr pair.attr pairs) as (λ b. length (cond b pairs (pairs ++ pair ∷ [])) ≤ length pairs + 1) [
@@ -59,6 +62,9 @@ adds_one AddIfNone pair pairs =
     ]
 adds_one Set pair pairs = put_adds_one (is_of pair.attr) pair pairs
 adds_one Append pair pairs = added_one pair pairs
+adds_one Remove pair pairs = fewer_one (λ p. not (is_equal_pair pair p)) pairs
+adds_one RemoveAll pair pairs = fewer_one (λ p. not (is_of pair.attr p)) pairs
+adds_one Keep pair pairs = fewer_one (λ p. not (is_other_pair pair p)) pairs
 
 -- An edit of a list that has room is done.
 is_done : (lists : PairLists) (edit : Edit) → length (list_of lists edit.list) < 512 → tried lists edit ≡ Some (lists_edited lists edit)

@@ -5,7 +5,7 @@
 #![tactic(auto)]
 
 mod action_table;
-mod default_columns;
+mod default_rows;
 mod group_kind;
 
 pub use action_table::{Action, Actions, default_actions};

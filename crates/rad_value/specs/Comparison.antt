@@ -1,7 +1,7 @@
 -- When a comparison of two values holds: values of one kind are ordered by number, or byte by byte
 -- for texts and octets; values of different kinds aren't compared. After unlang(5); the order of texts by
 -- bytes is this project's own.
-use Rattle.std.specs.Prelude.{Bool, true, false, Option, Some, None, option_map}
+use Rattle.std.specs.Prelude.{Bool, true, false, Option, Some, None, option_map, unwrap_or}
 use Rattle.std.specs.Ordering.{nat_cmp}
 use Rattle.std.specs.Cmp.Lexicographic.{slice_cmp}
 use Rattle.std.specs.declared.cmp.Ordering.{Ordering}
@@ -46,3 +46,7 @@ holds Ge Greater = true
 -- Whether the comparison holds, where the two values are of one kind.
 abbrev pub comparison : Value → Cmp → Value → Option Bool
 comparison left cmp right = option_map (holds cmp) (order_of left right)
+
+-- Whether two values are equal: of one kind, and `==` holds of them.
+abbrev pub is_equal : Value → Value → Bool
+is_equal left right = unwrap_or (comparison left Eq right) false

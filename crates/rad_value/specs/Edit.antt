@@ -1,13 +1,14 @@
--- What an edit makes of a list of pairs, one equation for each operator of unlang(5), 'update': `=`, `:=`
--- and `+=`. That `:=` keeps the place of the first pair, and that a list takes no pair by an edit once it
--- has 512, are this project's own.
-use Rattle.std.specs.Prelude.{◌≡◌, ◌≤◌, ℕ, Bool, true, not, ◌&&◌, nat_le, IsTrue, if◌then◌else◌, List, [], ◌∷◌, ◌++◌, length, filter, Option, Some, None}
+-- What an edit makes of a list of pairs, one equation for each operator of unlang(5), 'update': `=`, `:=`, `+=`, `-=`, `!*`
+-- and `==`. That `:=` keeps the place of the first pair, that a value of another kind differs, and that a list takes no
+-- pair by an edit once it has 512, are this project's own.
+use Rattle.std.specs.Prelude.{◌≡◌, ◌≤◌, ℕ, Bool, true, false, not, ◌&&◌, nat_le, IsTrue, if◌then◌else◌, List, [], ◌∷◌, ◌++◌, length, filter, Option, Some, None}
 use Rattle.std.specs.List.{list_any, before_first, after_first}
 use Rattle.rad_words.specs.declared.attributes.AttrId.{AttrId}
 use Rattle.rad_value.specs.declared.values.Pair.{Pair}
 use Rattle.rad_value.specs.declared.edits.Edit.{Edit}
 use Rattle.rad_value.specs.declared.edits.EditOp.{EditOp}
-use Rattle.rad_value.specs.declared.edits.EditOp.TheVariants.{AddIfNone, Set, Append}
+use Rattle.rad_value.specs.declared.edits.EditOp.TheVariants.{AddIfNone, Set, Append, Remove, RemoveAll, Keep}
+use Rattle.rad_value.specs.Comparison.{is_equal}
 use Rattle.rad_value.specs.Pairs.{is_of}
 use Rattle.rad_value.specs.PairLists.{PairLists, list_of, with_list}
 
@@ -19,7 +20,14 @@ has_attr attr pairs = list_any (is_of attr) pairs
 abbrev pub pair_of : Edit → Pair
 pair_of edit = record { attr = edit.attr; value = edit.value }
 
--- The list after an edit by this operator with this pair.
+-- Whether a pair is of the other's attribute and has an equal value; of the attribute and a value that differs.
+abbrev pub is_equal_pair : Pair → Pair → Bool
+is_equal_pair wanted pair = is_of wanted.attr pair && is_equal pair.value wanted.value
+
+abbrev pub is_other_pair : Pair → Pair → Bool
+is_other_pair wanted pair = is_of wanted.attr pair && not (is_equal pair.value wanted.value)
+
+-- The list after an edit by this operator with this pair (unlang(5), 'update').
 abbrev pub edited_by : EditOp → Pair → List Pair → List Pair
 -- at the tail, where there is none of its attribute
 edited_by AddIfNone pair pairs = if has_attr pair.attr pairs then pairs else pairs ++ pair ∷ []
@@ -28,16 +36,26 @@ edited_by Set pair pairs =
     before_first (is_of pair.attr) pairs ++ pair ∷ filter (λ p. not (is_of pair.attr p)) (after_first (is_of pair.attr) pairs)
 -- at the tail
 edited_by Append pair pairs = pairs ++ pair ∷ []
+-- without the attribute's pairs of an equal value
+edited_by Remove pair pairs = filter (λ p. not (is_equal_pair pair p)) pairs
+-- without the attribute's pairs
+edited_by RemoveAll pair pairs = filter (λ p. not (is_of pair.attr p)) pairs
+-- without the attribute's pairs of another value
+edited_by Keep pair pairs = filter (λ p. not (is_other_pair pair p)) pairs
 
 -- The list after an edit.
 abbrev pub edited : List Pair → Edit → List Pair
 edited pairs edit = edited_by edit.op (pair_of edit) pairs
 
--- Whether an edit by this operator adds a pair to the list: where it has none of the attribute, or always.
+-- Whether an edit by this operator adds a pair to the list: where it has none of the attribute, or always. One that takes
+-- pairs away adds none.
 abbrev pub adds : EditOp → AttrId → List Pair → Bool
 adds AddIfNone attr pairs = not (has_attr attr pairs)
 adds Set attr pairs = not (has_attr attr pairs)
 adds Append attr pairs = true
+adds Remove attr pairs = false
+adds RemoveAll attr pairs = false
+adds Keep attr pairs = false
 
 -- The edit would add a pair to a list of n pairs, which are 512 or more.
 abbrev pub IsFull : EditOp → AttrId → List Pair → ℕ → Type 0

@@ -3,3 +3,4 @@ pub mod Kinds
 pub mod Pairs
 pub mod PairLists
 pub mod Edit
+pub mod Scope

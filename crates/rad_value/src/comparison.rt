@@ -1,5 +1,5 @@
 ghost use Rattle.std.specs.Prelude.{◌≡◌};
-ghost use Rattle.rad_value.specs.Comparison.{comparison, holds};
+ghost use Rattle.rad_value.specs.Comparison.{comparison, holds, is_equal};
 
 use crate::Value;
 use std::cmp::Ordering;
@@ -31,6 +31,13 @@ pub fn compare(left: &Value, cmp: Cmp, right: &Value) -> Option<bool>
         _ => return None,
     };
     Some(holds(cmp, order))
+}
+
+/// Whether two values are equal: of one kind, with the same number or the same bytes.
+pub(crate) fn is_equal(left: &Value, right: &Value) -> bool
+    ensures { result ≡ is_equal left.now right.now }
+{
+    compare(left, Cmp::Eq, right).unwrap_or(false)
 }
 
 fn holds(cmp: Cmp, order: Ordering) -> bool

@@ -22,6 +22,12 @@ pub enum EditOp {
     Set,
     /// `+=`: adds the pair.
     Append,
+    /// `-=`: takes the pairs of its attribute away that have its value.
+    Remove,
+    /// `!*`: takes the pairs of its attribute away, whatever their values.
+    RemoveAll,
+    /// `==`: takes the pairs of its attribute away that have another value.
+    Keep,
 }
 
 /// One line of an `update` block: a pair, the list that it goes to, and how.

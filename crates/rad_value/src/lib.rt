@@ -6,11 +6,15 @@
 
 mod comparison;
 mod edits;
+mod laws;
 mod listed;
 mod pair_lists;
+mod scope;
 mod values;
 
 pub use comparison::{Cmp, compare};
 pub use edits::{Edit, EditFault, EditOp, ListName, Updated};
+pub use laws::edits_have_their_meaning;
 pub use pair_lists::Lists;
+pub use scope::Scope;
 pub use values::{Pair, Value};

@@ -4,8 +4,9 @@ ghost use Rattle.std.specs.Prelude.{◌≡◌, ℕ, ◌+◌, ◌<◌, ◌≤◌,
 ghost use Rattle.std.specs.Option.{option_copied};
 ghost use Rattle.std.specs.List.{before_first, after_first};
 ghost use Rattle.rad_value.specs.Pairs.{is_of, values_of, pairs_of};
-ghost use Rattle.rad_value.specs.Edit.{has_attr, edited, edited_by, pair_of, IsFull};
+ghost use Rattle.rad_value.specs.Edit.{has_attr, edited, edited_by, is_equal_pair, is_other_pair, pair_of, IsFull};
 
+use crate::comparison::is_equal;
 use crate::edits::{Edit, EditFault, EditOp};
 use crate::{Pair, Value};
 use rad_outside::NoMemory;
@@ -59,6 +60,7 @@ fn first_of(pairs: &[Pair], attr: AttrId) -> Option<usize>
 
 fn remove_all(pairs: &mut Vec<Pair>, attr: AttrId)
     ensures items { pairs.new.items ≡ filter (λ p. not (is_of attr p)) pairs.old.items }
+    ensures bound { length pairs.new.items ≤ length pairs.old.items }
     ensures room { vec_capacity pairs.new ≡ vec_capacity pairs.old }
 {
     pairs.retain(|pair| is_other(pair, attr));
@@ -137,6 +139,34 @@ fn replace(pairs: &mut Vec<Pair>, place: usize, pair: Pair)
     pairs.insert(place, pair).unwrap();
 }
 
+fn stays_at_remove(pair: &Pair, edit: &Edit) -> bool
+    ensures { result ≡ not (is_equal_pair (pair_of edit.now) pair.now) }
+{
+    !(is_of(pair, edit.attr) && is_equal(&pair.value, &edit.value))
+}
+
+fn stays_at_keep(pair: &Pair, edit: &Edit) -> bool
+    ensures { result ≡ not (is_other_pair (pair_of edit.now) pair.now) }
+{
+    !(is_of(pair, edit.attr) && !is_equal(&pair.value, &edit.value))
+}
+
+/// Takes the pairs of the edit's attribute away that have its value.
+fn remove(pairs: &mut Vec<Pair>, edit: &Edit)
+    ensures items { pairs.new.items ≡ edited_by EditOp.Remove (pair_of edit.now) pairs.old.items }
+    ensures bound { length pairs.new.items ≤ length pairs.old.items }
+{
+    pairs.retain(|pair| stays_at_remove(pair, edit));
+}
+
+/// Takes the pairs of the edit's attribute away that have another value.
+fn keep(pairs: &mut Vec<Pair>, edit: &Edit)
+    ensures items { pairs.new.items ≡ edited_by EditOp.Keep (pair_of edit.now) pairs.old.items }
+    ensures bound { length pairs.new.items ≤ length pairs.old.items }
+{
+    pairs.retain(|pair| stays_at_keep(pair, edit));
+}
+
 /// Does the edit in this list, in place.
 pub(crate) fn update(alloc: Global, pairs: &mut Vec<Pair>, edit: &Edit) -> Result<(), EditFault>
     requires { length pairs.old.items ≤ 2 ^ 31 }
@@ -150,5 +180,17 @@ pub(crate) fn update(alloc: Global, pairs: &mut Vec<Pair>, edit: &Edit) -> Resul
         EditOp::AddIfNone => add_if_none(alloc, pairs, edit),
         EditOp::Set => set(alloc, pairs, edit),
         EditOp::Append => append(alloc, pairs, edit),
+        EditOp::Remove => {
+            remove(pairs, edit);
+            Ok(())
+        }
+        EditOp::RemoveAll => {
+            remove_all(pairs, edit.attr);
+            Ok(())
+        }
+        EditOp::Keep => {
+            keep(pairs, edit);
+            Ok(())
+        }
     }
 }

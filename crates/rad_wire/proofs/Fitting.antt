@@ -87,12 +87,12 @@ pub record Writes (limit : ℕ) (start : List ℕ) (pairs : List Pair) (n : ℕ)
 pub Writes-start : (limit : ℕ) (start : List ℕ) (pairs : List Pair) → length start ≤ limit → Writes limit start pairs 0 start
 Writes-start limit start pairs within = record { within = within; so_far = refl }
 
-drop_at_get : (pairs : List Pair) (n : ℕ) (pair : Pair) → slice_get pairs n ≡ Some pair → drop n pairs ≡ pair ∷ drop (n + 1) pairs
+pub drop_at_get : (pairs : List Pair) (n : ℕ) (pair : Pair) → slice_get pairs n ≡ Some pair → drop n pairs ≡ pair ∷ drop (n + 1) pairs
 drop_at_get pairs n pair found =
     drop_more pairs n pair (slice_get_within pairs n pair found)
     ∙ ap (λ (p : Pair). p ∷ drop (n + 1) pairs) (get_or_from_slice_get pairs n pair pair found)
 
-none_past : (pairs : List Pair) (n : ℕ) → slice_get pairs n ≡ None → length pairs ≤ n
+pub none_past : (pairs : List Pair) (n : ℕ) → slice_get pairs n ≡ None → length pairs ≤ n
 none_past [] n none = omega arith
 none_past (p ∷ pairs) zero none = absurd (none-some p (sym none))
 none_past (p ∷ pairs) (suc n) none = omega (arith, none_past pairs n none)

@@ -3,5 +3,8 @@ pub mod Replies
 pub mod VendorParts
 pub mod PairWalks
 pub mod Fitting
+pub mod Drafts
+pub mod Requests
+pub mod Answering
 pub mod AttributePairs
 pub mod RepliesDecoded

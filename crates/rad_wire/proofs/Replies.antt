@@ -62,16 +62,16 @@ states_fit request well =
 
 -- ---- the pairs' part
 
-joined_fit : (attributes others : List Attribute) → AllByRecursion Fits attributes → AllByRecursion Fits others
+pub joined_fit : (attributes others : List Attribute) → AllByRecursion Fits attributes → AllByRecursion Fits others
     → AllByRecursion Fits (attributes ++ others)
 joined_fit [] others h k = k
 joined_fit (a ∷ attributes) others h k = (h.0, joined_fit attributes others h.1 k)
 
-one_fits : (b : Bool) (a : Attribute) → Fits a → AllByRecursion Fits (cond b [] (a ∷ []))
+pub one_fits : (b : Bool) (a : Attribute) → Fits a → AllByRecursion Fits (cond b [] (a ∷ []))
 one_fits true a fits = tt
 one_fits false a fits = (fits, tt)
 
-sent_fit : (space : Space) (number : ℕ) (octets : List ℕ) → AllByRecursion Fits (sent_attributes space number octets)
+pub sent_fit : (space : Space) (number : ℕ) (octets : List ℕ) → AllByRecursion Fits (sent_attributes space number octets)
 sent_fit Standard number octets =
     one_fits (is_left_out number) (record { kind = number; value = take 253 octets }) (omega (arith, length-take 253 octets))
 sent_fit (Vendor vendor) number octets =

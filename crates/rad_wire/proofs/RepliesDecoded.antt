@@ -1,7 +1,7 @@
 -- What a reply carries is decoded again.
-use Rattle.std.proofs.Common.{◌≡◌, ◌≢◌, ℕ, ◌+◌, ◌<◌, ◌≤◌, Bool, true, false, cond, List, [], ◌∷◌, ◌++◌, length, take, drop, refl, sym, ap, ◌∙◌, inl, inr, arith}
-use Rattle.std.specs.Prelude.{◌⊎◌, ◌==◌, ◌||◌, All, filter, map, nat_lt}
-use Rattle.std.specs.Int.{w32, from_be_bytes, to_be_bytes}
+use Rattle.std.proofs.Common.{◌≡◌, ◌≢◌, ℕ, ◌≤◌, Bool, true, false, cond, List, [], ◌∷◌, ◌++◌, length, take, drop, refl, sym, ap, ◌∙◌, inl, inr, arith}
+use Rattle.std.specs.Prelude.{◌==◌, ◌||◌, All, filter, map, nat_lt}
+use Rattle.std.specs.Int.{w32, to_be_bytes}
 use Rattle.std.specs.List.{flat_map}
 use Rattle.std.proofs.lemmas.Bool.{cases_eq, eqb-true, ne_eqb}
 use Rattle.std.proofs.lemmas.Grind.{flat_map-append}
@@ -18,9 +18,9 @@ use Rattle.rad_value.specs.declared.values.Value.TheVariants as values
 use Rattle.rad_dict.specs.Definitions.{Definitions}
 use Rattle.rad_packet.specs.Packet.{Attribute, AreAttributes, IsWellFormed, attributes_of, spelled}
 use Rattle.rad_wire.specs.Pairs.{attribute_pairs, kind_of, of_vendor, pair_of, pairs_of, standard, vendor_of, vendor_pairs, vendor_parts}
-use Rattle.rad_wire.specs.Reply.{attributes_for, fitting, is_left_out, proxy_state_attributes, reply_attributes, reply_octets, room_beside, sent_attributes}
+use Rattle.rad_wire.specs.Reply.{attributes_for, fitting, is_left_out, proxy_state_attributes, reply_attributes, reply_octets, room_beside}
 use Rattle.rad_wire.specs.Values.{octets_of, value_of}
-use Rattle.rad_wire.specs.Carried.{FitBeside, HasNoParts, IsCarried, IsInRange, IsUncut, proxy_state_pairs}
+use Rattle.rad_wire.specs.Carried.{FitBeside, HasNoParts, IsCarried, IsInRange, proxy_state_pairs}
 use Rattle.rad_value.specs.Kinds.{kind_of_value}
 use Rattle.rad_packet.proofs.AttributeLists.{packet_reading}
 use Rattle.rad_wire.proofs.AttributePairs.{attribute, of_others, of_vendors}

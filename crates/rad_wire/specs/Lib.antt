@@ -1,5 +1,7 @@
 pub use Rattle.rad_packet.specs.Packet
 pub use Rattle.rad_packet.specs.Front
+pub use Rattle.rad_packet.specs.Hmac
+pub use Rattle.rad_packet.specs.Signatures
 pub use Rattle.rad_packet.specs.Authentic
 pub use Rattle.rad_packet.specs.Octets
 pub use Rattle.rad_packet.specs.Hiding
@@ -8,3 +10,6 @@ pub mod Pairs
 pub mod Reply
 pub mod Appended
 pub mod Carried
+pub mod Accepts
+pub mod Request
+pub mod Draft

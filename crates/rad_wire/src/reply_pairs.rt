@@ -7,16 +7,12 @@ ghost use Rattle.rad_packet.specs.Packet.{spelled};
 ghost use Rattle.rad_wire.specs.Appended.{IsAppended};
 ghost use Rattle.rad_wire.specs.Reply.{attributes_for, fitting, is_left_out, sent_attributes};
 
-use crate::decoding::VENDOR_SPECIFIC;
+use crate::attribute_writing::{
+    LONGEST_PART, LONGEST_VALUE, cut, push_attribute, push_vendor_attribute,
+};
 use rad_outside::NoMemory;
 use rad_value::{ListName, Lists, Pair, Value};
 use rad_words::{AttrId, Space};
-
-/// The most octets of a value (RFC 2865 section 5).
-const LONGEST_VALUE: usize = 253;
-
-/// The most octets of a value within Vendor-Specific, behind the Vendor-Id, type and length.
-const LONGEST_PART: usize = 247;
 
 /// Appends the pairs of the reply list, in order, up to the first that would pass the limit in octets.
 pub(crate) fn push_pairs(reply: &mut Vec<u8>, limit: usize, lists: &Lists) -> Result<(), NoMemory>
@@ -89,15 +85,6 @@ fn is_left_out(number: u8) -> bool
     matches!(number, 2 | 3 | 33 | 80)
 }
 
-/// The octets up to the limit.
-fn cut(octets: &[u8], limit: usize) -> &[u8]
-    ensures cut { result.now ≡ take limit octets.now }
-    ensures bound { length result.now ≤ limit }
-{
-    let (front, _) = octets.split_at(octets.len().min(limit));
-    front
-}
-
 /// Appends an attribute, if it doesn't pass the limit. False where it would.
 fn push_standard(
     reply: &mut Vec<u8>,
@@ -115,8 +102,7 @@ fn push_standard(
     if reply.len() + size > limit {
         return Ok(false);
     }
-    reply.extend_from_slice(&[number, size as u8])?;
-    reply.extend_from_slice(value)?;
+    push_attribute(reply, number, value)?;
     Ok(true)
 }
 
@@ -138,9 +124,6 @@ fn push_of_vendor(
     if reply.len() + 6 + size > limit {
         return Ok(false);
     }
-    reply.extend_from_slice(&[VENDOR_SPECIFIC, (6 + size) as u8])?;
-    reply.extend_from_slice(&vendor.to_be_bytes())?;
-    reply.extend_from_slice(&[number, size as u8])?;
-    reply.extend_from_slice(value)?;
+    push_vendor_attribute(reply, vendor, number, value)?;
     Ok(true)
 }

@@ -17,10 +17,13 @@ const LIST_NAMES: [(&[u8], ListName); 3] = [
     (b"control", ListName::Control),
 ];
 
-const OPERATORS: [(&[u8], EditOp); 3] = [
+const OPERATORS: [(&[u8], EditOp); 6] = [
     (b"=", EditOp::AddIfNone),
     (b":=", EditOp::Set),
     (b"+=", EditOp::Append),
+    (b"-=", EditOp::Remove),
+    (b"!*", EditOp::RemoveAll),
+    (b"==", EditOp::Keep),
 ];
 
 /// What every list but the one that is edited has.

@@ -34,18 +34,50 @@ const KINDS: [(&[u8], GroupKind); 2] = [
     (b"redundant", GroupKind::Redundant),
 ];
 
-/// A section and a kind of group give the nine default actions.
+/// The signs of actions.
+const SIGNS: [(&[u8], Action); 7] = [
+    (b"R", Action::Return),
+    (b"!", Action::Reject),
+    (b"1", Action::Priority(1)),
+    (b"2", Action::Priority(2)),
+    (b"3", Action::Priority(3)),
+    (b"4", Action::Priority(4)),
+    (b"5", Action::Priority(5)),
+];
+
+/// The names of the codes, in the order of a case's signs.
+const CODE_NAMES: [(&[u8], Code); 9] = [
+    (b"reject", Code::Reject),
+    (b"fail", Code::Fail),
+    (b"ok", Code::Ok),
+    (b"handled", Code::Handled),
+    (b"invalid", Code::Invalid),
+    (b"userlock", Code::Userlock),
+    (b"notfound", Code::Notfound),
+    (b"noop", Code::Noop),
+    (b"updated", Code::Updated),
+];
+
+/// A section, a kind of group, and an action of its own for a code, if any, give the nine actions.
 #[derive(Drop)]
 pub struct Columns;
 
 impl Subject for Columns {
     fn answer(&mut self, alloc: Global, case: &Case) -> Result<Vec<u8>, NoMemory> {
-        answered(alloc, column(alloc, case.cell(0), case.cell(1)))
+        answered(alloc, column(alloc, case))
     }
 }
 
-fn column(alloc: Global, section: &[u8], kind: &[u8]) -> Result<Vec<u8>, NoAnswer> {
-    let actions = default_actions(meaning_of(&SECTIONS, section)?, meaning_of(&KINDS, kind)?);
+fn column(alloc: Global, case: &Case) -> Result<Vec<u8>, NoAnswer> {
+    let section = meaning_of(&SECTIONS, case.cell(0))?;
+    let actions = default_actions(section, meaning_of(&KINDS, case.cell(1))?);
+    let actions = match case.cell(2) {
+        b"" => actions,
+        code => actions.with(
+            meaning_of(&CODE_NAMES, code)?,
+            meaning_of(&SIGNS, case.cell(3))?,
+        ),
+    };
     let mut signs = Vec::new(alloc);
     for code in CODES {
         push_action(alloc, &mut signs, actions.at(code))?;
