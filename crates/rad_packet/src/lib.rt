@@ -20,7 +20,8 @@ pub use cause::DropCause;
 pub use checking::{Checked, check};
 pub use client::Client;
 pub use hiding::{
-    HideFault, RevealFault, carried, hidden_passwords_are_revealed, hide, is_hidden_length, reveal, revealed,
+    HideFault, RevealFault, carried, hidden_passwords_are_revealed, hide, is_hidden_length, reveal,
+    revealed,
 };
 pub use laws::{attributes_have_one_reading, authentic_has_no_cause, message_authenticators_vouch};
 pub use signatures::{accounting_authenticator, digest_with, is_intact, message_authenticator};
