@@ -4,18 +4,24 @@
 //! Above it stands the server, which asks it one event at a time; of the policy it knows the trait `Policy` alone.
 #![tactic(auto)]
 
+mod entry;
 mod finishes;
 mod installed;
 mod installs;
 mod looks;
 mod machine;
+mod post;
 mod row;
 mod seen;
+mod standing;
 mod started;
 mod starts;
+mod steps;
 
+pub use entry::Entry;
 pub use installed::Installed;
 pub use machine::Core;
+pub use post::Post;
 pub use rad_policy::{Arrival, Arrived, Ending, Outcome, Policy};
 pub use seen::Seen;
 pub use started::{StartAnswer, Started, Ticket};
