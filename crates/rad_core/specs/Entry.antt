@@ -1,7 +1,5 @@
 -- The entries of a history: what was asked of the core, and what it answered. This project's own.
 use Rattle.std.specs.Prelude.{ℕ}
-use Rattle.rad_core.specs.declared.entry.Entry.{Entry}
-use Rattle.rad_core.specs.declared.entry.Entry.TheVariants.{Start, Finish, Install, Look, Stop}
 pub use Rattle.rad_core.specs.declared.entry.Entry.{Entry}
 pub use Rattle.rad_core.specs.declared.entry.Entry.TheVariants.{Start, Finish, Install, Look, Stop}
 

@@ -180,3 +180,10 @@ impl<P: Policy, L: Shelf> Post<P, L> {
         }
     }
 }
+
+fn may_be_shared<T: Send + Sync>() {}
+
+/// Where generations may be shared by threads and a log may go to another, any thread may use a post of them.
+pub fn crosses_threads<P: Policy + Send + Sync, L: Send>() {
+    may_be_shared::<Post<P, L>>();
+}

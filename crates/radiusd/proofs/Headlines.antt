@@ -6,7 +6,8 @@ use Rattle.rad_outside.specs.Crew.{Handed}
 use Rattle.rad_outside.specs.Telling.{Tells}
 use Rattle.rad_core.specs.declared.installed.Installed.{Installed}
 use Rattle.rad_core.specs.State.{ServerState, opening}
-use Rattle.rad_core.specs.Entry.{Entry, Install}
+use Rattle.rad_core.specs.declared.entry.Entry.{Entry}
+use Rattle.rad_core.specs.declared.entry.Entry.TheVariants.{Install}
 use Rattle.rad_core.specs.Step.{after, IsLegal}
 use Rattle.rad_core.specs.Worker.{Placed, placed, of_worker, served, IsClosed, IsOwn}
 use Rattle.rad_core.proofs.Histories.{run-append, IsLegal-append, of_worker-own}

@@ -7,7 +7,8 @@ use Rattle.rad_outside.specs.Crew.{Handed}
 use Rattle.rad_outside.specs.Files.{FilesTold, begun}
 use Rattle.rad_outside.specs.Telling.{Tells, Rose}
 use Rattle.rad_core.specs.declared.installed.Installed.{Installed}
-use Rattle.rad_core.specs.Entry.{Entry, Install}
+use Rattle.rad_core.specs.declared.entry.Entry.{Entry}
+use Rattle.rad_core.specs.declared.entry.Entry.TheVariants.{Install}
 use Rattle.rad_policy.specs.Policy.{IsBuilt}
 use Rattle.rad_site.specs.declared.fault.BuildFault.{BuildFault}
 use Rattle.rad_site.specs.declared.fault.BuildFault.TheVariants as fault
@@ -15,7 +16,7 @@ use Rattle.rad_site.specs.Built.{built}
 use Rattle.radiusd.specs.Counting.{counts_of}
 use Rattle.rad_site.specs.FaultText.{fault_text}
 use Rattle.radiusd.specs.History.{listener_of}
-use Rattle.radiusd.specs.Lines.{listening_line, counts_line, socket_fault_line, usage_line}
+use Rattle.radiusd.specs.Lines.{listening_line, counts_line, socket_fault_line, worn_line, usage_line}
 use Rattle.rad_site.specs.Meaning.{site_meaning}
 use Rattle.rad_site.specs.Site.{Site}
 use Rattle.radiusd.specs.Words.{folder_in}
@@ -46,14 +47,18 @@ fault_line (fault.Tree wrong) = fault_text (fault.Tree wrong) ++ 10 ∷ []
 fault_line fault.ReadFault = fault_text fault.ReadFault ++ 10 ∷ []
 fault_line fault.NoMemory = []
 
--- What a run prints at its end, once its workers ran: the counts and, where one of them was deaf, the socket fault.
-abbrev pub closing_lines : ℕ → List (Entry Site BuildFault) → List ℕ
-closing_lines status added = counts_line (counts_of added) ++ (if status == 4 then socket_fault_line else [])
+-- The line of a status that has one of its own: a socket couldn't be had or a worker was deaf, or the history was full.
+abbrev pub status_line : ℕ → List ℕ
+status_line status = if status == 4 then socket_fault_line else if status == 7 then worn_line else []
 
--- What a run prints that serves a site: the listening line and then the closing ones. Where no kit could be had it is
--- the socket fault alone.
+-- What a run prints at its end, once its workers ran: the counts, and the line of its status.
+abbrev pub closing_lines : ℕ → List (Entry Site BuildFault) → List ℕ
+closing_lines status added = counts_line (counts_of added) ++ status_line status
+
+-- What a run prints that serves a site: the listening line and then the closing ones. Where there is no kit it is the
+-- line of its status alone.
 abbrev pub serving_lines : {H : Type 0} → Site → ℕ → List H → List (Entry Site BuildFault) → List ℕ
-serving_lines site status [] added = socket_fault_line
+serving_lines site status [] added = status_line status
 serving_lines site status (handed ∷ more) added = listening_line site.server site.at ++ closing_lines status added
 
 -- The lines of a run, by its course, its exit status, the kits that were handed out and the entries that it added.

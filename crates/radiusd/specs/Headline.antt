@@ -7,7 +7,8 @@ use Rattle.rad_outside.specs.Files.{FilesTold}
 use Rattle.rad_outside.specs.Telling.{Tells}
 use Rattle.rad_policy.specs.declared.arrival.Arrived.{Arrived}
 use Rattle.rad_core.specs.State.{opening}
-use Rattle.rad_core.specs.Entry.{Entry, worker_of}
+use Rattle.rad_core.specs.declared.entry.Entry.{Entry}
+use Rattle.rad_core.specs.Entry.{worker_of}
 use Rattle.rad_core.specs.Step.{IsLegal}
 use Rattle.rad_core.specs.Worker.{Placed, placed, of_worker, served, answered, IsClosed, HaveOutcomes}
 use Rattle.rad_core.specs.Completeness.{EachHasOneReply}
