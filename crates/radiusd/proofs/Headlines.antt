@@ -130,7 +130,7 @@ module _ {W S K U G L : Type 0} (tells : KitTells W K U) (status : ℕ) (crew_be
         served_in_order = (
           record {
             received = told.served_in_order;
-            own = subst (λ n. AllByRecursion (IsAt 0 n handed.listen) (served mine)) (sym told.listener) told.own;
+            own = told.own;
             closed = told.closed;
           },
           tt,

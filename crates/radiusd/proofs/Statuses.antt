@@ -70,7 +70,7 @@ pub unbuilt_course : (words : List (List ℕ)) (folder : List ℕ) (wrong : Buil
 unbuilt_course words folder wrong files_before files_now words_are told = (
   folder,
   words_are,
-  Tells-weaker (λ (before now : FilesTold). IsBuilt site_meaning (record { files = (begun before).present; folder = folder }) (Err wrong)) files_before files_now (λ before now t. t.1) told,
+  told,
 )
 
 pub serving_course : (words : List (List ℕ)) (folder : List ℕ) (site : Site) (files_before files_now : Option FilesTold)
@@ -80,7 +80,7 @@ pub serving_course : (words : List (List ℕ)) (folder : List ℕ) (site : Site)
 serving_course words folder site files_before files_now words_are told = (
   folder,
   words_are,
-  Tells-weaker (λ (before now : FilesTold). built (record { files = (begun before).present; folder = folder }) ≡ Ok site) files_before files_now (λ before now t. t.1) told,
+  told,
 )
 
 -- a site is built to one thing

@@ -28,15 +28,16 @@ pub data Course : Type 0 where
   Serving : (site : Site) → Course
 
 -- Whether a run took this course is a matter of its words and of the next map of its files: the site is what that map
--- is built to in the words' folder, and so is a fault, or it is a read fault or want of memory.
+-- is built to in the words' folder, and so is a fault, or it is a read fault or want of memory. The files have begun that
+-- map and no other; where the words are others they are as they were.
 abbrev pub IsCourse : List (List ℕ) → Option FilesTold → Option FilesTold → Course → Type 0
-IsCourse words files_before files_now Misworded = folder_in words ≡ None
+IsCourse words files_before files_now Misworded = (folder_in words ≡ None) × Tells files_before files_now (λ before now. now ≡ before)
 IsCourse words files_before files_now (Unbuilt wrong) = (folder : List ℕ) × (folder_in words ≡ Some folder)
-    × Tells files_before files_now (λ before now.
-    IsBuilt site_meaning (record { files = (begun before).present; folder = folder }) (Err wrong))
+    × Tells files_before files_now (λ before now. (now ≡ begun before)
+    × IsBuilt site_meaning (record { files = (begun before).present; folder = folder }) (Err wrong))
 IsCourse words files_before files_now (Serving site) = (folder : List ℕ) × (folder_in words ≡ Some folder)
-    × Tells files_before files_now (λ before now.
-    built (record { files = (begun before).present; folder = folder }) ≡ Ok site)
+    × Tells files_before files_now (λ before now. (now ≡ begun before)
+    × (built (record { files = (begun before).present; folder = folder }) ≡ Ok site))
 
 -- The line of a fault: its text, with place and reason, and a newline. Want of memory has none.
 abbrev pub fault_line : BuildFault → List ℕ

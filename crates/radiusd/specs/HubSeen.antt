@@ -4,8 +4,7 @@ use Rattle.rad_core.specs.declared.entry.Entry.{Entry}
 use Rattle.rad_site.specs.declared.fault.BuildFault.{BuildFault}
 use Rattle.rad_site.specs.Site.{Site}
 
--- Its history, which exists in proofs alone, its session log and the path of that.
+-- Its history, which exists in proofs alone, and what that goes out from: the session log and the path of it.
 pub record HubSeen (L : Type 0) : Type 0 where
   pub history : List (Entry Site BuildFault)
-  pub log : L
-  pub path : List ℕ
+  pub origin : L × List ℕ

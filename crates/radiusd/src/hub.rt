@@ -47,8 +47,7 @@ where
 
     ghost view = { λ h. record {
       history = (known h.seat).seen;
-      log = (known h.seat).origin.0;
-      path = (known h.seat).origin.1;
+      origin = (known h.seat).origin;
     } };
 
     ghost invariant = { λ h. IsOf h.post.desk h.seat × IsAlone (known h.seat) × IsNumbered (known h.seat).seen h.length h.tally };
@@ -61,8 +60,7 @@ impl<L: Shelf + Drop> Hub<L> {
     pub fn new(alloc: Global, log: L, path: Octets) -> Result<Hub<L>, NoMemory>
         requires { IsUtf8 path }
         ensures history { IfOk result (λ hub. hub.history ≡ []) }
-        ensures log { IfOk result (λ hub. hub.log ≡ log) }
-        ensures path { IfOk result (λ hub. hub.path ≡ path) }
+        ensures origin { IfOk result (λ hub. hub.origin ≡ (log, path)) }
     {
         match Post::new(alloc, Core::new(alloc, log, path)) {
             Ok((post, seat)) => Ok(Hub {
@@ -92,7 +90,7 @@ impl<L: Shelf> Hub<L> {
 
     /// The log, as the runs left it.
     pub fn into_log(self) -> L
-        ensures { result ≡ self.log }
+        ensures { result ≡ self.origin.0 }
     {
         let Hub { post, seat, .. } = self;
         match post.close(seat) {
@@ -128,7 +126,7 @@ impl<L: Shelf> Hub<L> {
         ensures fits { FitsAnswer result }
         ensures buffer { length buffer.new ≡ 4096 }
         ensures shelf { shelf.new ≡ shelf.old }
-        ensures log { self.new.log ≡ self.old.log }
+        ensures origin { self.new.origin ≡ self.old.origin }
     {
         let taken = take_turn(
             rt,
@@ -155,7 +153,7 @@ impl<L: Shelf> Hub<L> {
     ) -> bool
         requires { length self.old.history < 2 ^ 62 }
         ensures installed { Installs self.old.history self.new.history (arc_value generation) listeners.entry.now result }
-        ensures log { self.new.log ≡ self.old.log }
+        ensures origin { self.new.origin ≡ self.old.origin }
     {
         let Ok(answer) = self
             .post
@@ -173,7 +171,7 @@ impl<L: Shelf> Hub<L> {
     pub(crate) fn look<R: Wait>(&mut self, rt: &R) -> Seen
         requires { length self.old.history < 2 ^ 62 }
         ensures added { Adds self.old.history self.new.history (Look 0 result) }
-        ensures log { self.new.log ≡ self.old.log }
+        ensures origin { self.new.origin ≡ self.old.origin }
     {
         let Ok(seen) = self.post.look(rt, &mut self.seat) else {
             unreachable!()
@@ -186,7 +184,7 @@ impl<L: Shelf> Hub<L> {
     pub(crate) fn stop<R: Wait>(&mut self, rt: &R)
         requires { length self.old.history < 2 ^ 62 }
         ensures added { Adds self.old.history self.new.history (Stop 0) }
-        ensures log { self.new.log ≡ self.old.log }
+        ensures origin { self.new.origin ≡ self.old.origin }
     {
         let Ok(()) = self.post.stop(rt, &mut self.seat) else {
             unreachable!()

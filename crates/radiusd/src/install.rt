@@ -39,7 +39,7 @@ fn install_shared<R: Wait, L: Shelf>(
 ) -> Result<Listen, Status>
     ensures installed { IfOk result (IsInstalled hub.old.history hub.new.history (arc_value generation)) }
     ensures err { IfErr result (IsNotInstalled hub.old.history hub.new.history (arc_value generation)) }
-    ensures log { hub.new.log ≡ hub.old.log }
+    ensures origin { hub.new.origin ≡ hub.old.origin }
 {
     let Ok(listen) = listener_of(alloc, &generation) else {
         return Err(Status::NoMemory);
@@ -67,7 +67,7 @@ pub(crate) fn install<R: Wait, L: Shelf>(
 ) -> Result<Listen, Status>
     ensures installed { IfOk result (IsInstalled hub.old.history hub.new.history generation) }
     ensures err { IfErr result (IsNotInstalled hub.old.history hub.new.history generation) }
-    ensures log { hub.new.log ≡ hub.old.log }
+    ensures origin { hub.new.origin ≡ hub.old.origin }
 {
     match Arc::new(alloc, generation) {
         Ok(generation) => install_shared(rt, alloc, hub, generation),

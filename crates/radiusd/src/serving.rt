@@ -38,7 +38,7 @@ fn serve_datagram<R: Wait, L: Shelf, W: Wire, S: Shelf, K: Clock, U: Luck, G: Ga
     requires auth { listen.now.kind ≡ Auth }
     ensures serves { Serves (record { wire = W.told; clock = K.told; luck = U.told; failures = W.failures_in_a_row; has_ended = W.has_ended })
         0 listen.now hub.old.history hub.new.history kit.old kit.new from octets.now }
-    ensures log { hub.new.log ≡ hub.old.log }
+    ensures origin { hub.new.origin ≡ hub.old.origin }
 {
     let arrival = Arrival {
         worker: WORKER,
@@ -83,7 +83,7 @@ fn pass<R: Wait, L: Shelf, W: Wire, S: Shelf, K: Clock, U: Luck, G: Gate>(
     ensures goes_on { GoesOn (record { wire = W.told; clock = K.told; luck = U.told; failures = W.failures_in_a_row; has_ended = W.has_ended })
         0 listen.now (left_of result) hub.old.history hub.new.history kit.old kit.new }
     ensures counted { IsCounted result (W.failures_in_a_row kit.new.wire) }
-    ensures log { hub.new.log ≡ hub.old.log }
+    ensures origin { hub.new.origin ≡ hub.old.origin }
 {
     if !hub.has_turns() {
         return Passed::Leaving(Left::Worn);
@@ -127,7 +127,7 @@ pub(crate) fn serve<R: Wait, L: Shelf, W: Wire, S: Shelf, K: Clock, U: Luck, G: 
     requires fresh { W.failures_in_a_row kit.old.wire ≡ 0 }
     ensures goes_on { GoesOn (record { wire = W.told; clock = K.told; luck = U.told; failures = W.failures_in_a_row; has_ended = W.has_ended })
         0 listen.now (Some result) hub.old.history hub.new.history kit.old kit.new }
-    ensures log { hub.new.log ≡ hub.old.log }
+    ensures origin { hub.new.origin ≡ hub.old.origin }
 {
     let mut failures = 0;
     for _ in rt.forever() {

@@ -155,7 +155,7 @@ where
     O: Sink,
     requires { kits.old.items ≡ [] }
     ensures headline { Headline (record { wire = W.told; clock = K.told; luck = U.told; failures = W.failures_in_a_row; has_ended = W.has_ended })
-        (Serving generation) (number_of result) (C.told crew.old) (C.told crew.new) hub.old.log hub.new.log
+        (Serving generation) (number_of result) (C.told crew.old) (C.told crew.new) hub.old.origin hub.new.origin
         (O.told out.old) (O.told out.new) (O.faults out.old) (O.faults out.new) hub.old.history hub.new.history kits.new.items }
     ensures serving { IsServing result }
     ensures over { result ≡ Status.Done → IsTrue (state_after hub.new.history).is_stopped

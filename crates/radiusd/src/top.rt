@@ -85,7 +85,7 @@ where
     requires { kits.old.items ≡ [] }
     ensures headline { RunsAs (map string_bytes words.now) (F.told files.old) (F.told files.new) (λ course.
         Headline (record { wire = W.told; clock = K.told; luck = U.told; failures = W.failures_in_a_row; has_ended = W.has_ended })
-        course (number_of result) (C.told crew.old) (C.told crew.new) hub.old.log hub.new.log
+        course (number_of result) (C.told crew.old) (C.told crew.new) hub.old.origin hub.new.origin
         (O.told out.old) (O.told out.new) (O.faults out.old) (O.faults out.new) hub.old.history hub.new.history kits.new.items) }
     ensures words { (result ≡ Status.Words) ↔ (folder_in (map string_bytes words.now) ≡ None) }
     ensures refused { result ≡ Status.Configuration → IsRefused (map string_bytes words.now)
@@ -149,7 +149,7 @@ where
     requires { kits.old.items ≡ [] }
     ensures headline { RunsAs (map string_bytes words.now) (F.told files.old) (F.told files.new) (λ course.
         Headline (record { wire = W.told; clock = K.told; luck = U.told; failures = W.failures_in_a_row; has_ended = W.has_ended })
-        course (result) (C.told crew.old) (C.told crew.new) hub.old.log hub.new.log
+        course (result) (C.told crew.old) (C.told crew.new) hub.old.origin hub.new.origin
         (O.told out.old) (O.told out.new) (O.faults out.old) (O.faults out.new) hub.old.history hub.new.history kits.new.items) }
     ensures words { (result ≡ 1) ↔ (folder_in (map string_bytes words.now) ≡ None) }
     ensures refused { result ≡ 2 → IsRefused (map string_bytes words.now)

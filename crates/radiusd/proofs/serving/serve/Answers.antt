@@ -13,7 +13,7 @@ loop-init g c =
       goes_on = goes_on_still tells 0 c.args.listen.now c.args.hub.now.history c.args.kit.now None (tt, unasked tells c.args.kit.now.wire) (λ e. cc) (λ e. cc);
       counted = counted;
       few = few;
-      log = refl;
+      origin = refl;
     }
 
 pub loop-preserved : goal.loop-preserved
@@ -23,7 +23,7 @@ loop-preserved g c =
       goes_on = GoesOn-trans tells 0 c.args.listen.now None c.args.hub.now.history c.loop.hub.history c.pass.new.hub.history c.args.kit.now c.loop.kit c.pass.new.kit c.loop.invariant.goes_on c.in-On.ensures.goes_on;
       counted = c.in-On.ensures.counted.0;
       few = omega (arith, c.in-On.ensures.counted.0, c.in-On.ensures.counted.1);
-      log = c.pass.ensures.log ∙ c.loop.invariant.log;
+      origin = c.pass.ensures.origin ∙ c.loop.invariant.origin;
     }
 
 pub returns-in-Leaving-clause-goes_on : goal.returns-in-Leaving-clause-goes_on
