@@ -2,3 +2,4 @@ pub mod Rows
 pub mod Histories
 pub mod Turns
 pub mod Completeness
+pub mod Behind

@@ -1,5 +1,5 @@
 -- The state that a core keeps. This project's own.
-use Rattle.std.specs.Prelude.{map}
+use Rattle.std.specs.Prelude.{ℕ, List, map}
 use Rattle.std.specs.Option.{option_map}
 use Rattle.std.specs.Arc.{arc_value}
 use Rattle.rad_core.specs.declared.row.Row.{Row}
@@ -29,3 +29,7 @@ state_of core = record {
 -- The session log.
 abbrev pub log_of : {P L : Type 0} → Core P L → L
 log_of core = core.log
+
+-- What the histories of a core go out from: its session log and the path of that. No entry changes them yet.
+abbrev pub origin_of : {P L : Type 0} → Core P L → L × List ℕ
+origin_of core = (core.log, core.path)

@@ -7,3 +7,4 @@ pub mod Worker
 pub mod Completeness
 pub mod Answers
 pub mod Core
+pub mod Behind

@@ -3,7 +3,7 @@ ghost use Rattle.rad_core.specs.Entry.{Finish};
 ghost use Rattle.rad_core.specs.Step.{Step};
 ghost use Rattle.rad_policy.specs.Seen.{ending_seen};
 ghost use Rattle.rad_core.specs.Answers.{IsHeld};
-ghost use Rattle.rad_core.specs.Core.{state_of, log_of};
+ghost use Rattle.rad_core.specs.Core.{state_of, origin_of};
 
 use crate::machine::Core;
 use crate::row::Row;
@@ -16,7 +16,17 @@ impl<P: Policy, L> Core<P, L> {
         requires held { IsHeld P.meaning (state_of self.old) ticket worker (ending_seen outcome) }
         requires few { (state_of self.old).entries < 2 ^ 63 }
         ensures step { Step P.meaning (state_of self.old) (Finish worker ticket.place (ending_seen outcome)) (state_of self.new) }
-        ensures log { log_of self.new ≡ log_of self.old }
+        ensures origin { origin_of self.new ≡ origin_of self.old }
+    {
+        self.end(&ticket, worker, &outcome)
+    }
+
+    /// The request of a ticket has ended so.
+    pub(crate) fn end(&mut self, ticket: &Ticket<P>, _worker: u32, _outcome: &Outcome)
+        requires held { IsHeld P.meaning (state_of self.old) ticket.now _worker (ending_seen _outcome.now) }
+        requires few { (state_of self.old).entries < 2 ^ 63 }
+        ensures step { Step P.meaning (state_of self.old) (Finish _worker ticket.entry.now.place (ending_seen _outcome.entry.now)) (state_of self.new) }
+        ensures origin { origin_of self.new ≡ origin_of self.old }
     {
         remove(&mut self.table, ticket.place);
         self.entries += 1;

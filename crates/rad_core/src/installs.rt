@@ -2,7 +2,7 @@ ghost use Rattle.std.specs.Prelude.{◌≡◌, ◌<◌, ◌^◌, IfOk};
 ghost use Rattle.rad_core.specs.Entry.{Install};
 ghost use Rattle.rad_core.specs.Step.{Step, gone_of, served_by};
 ghost use Rattle.rad_core.specs.Answers.{load_seen};
-ghost use Rattle.rad_core.specs.Core.{state_of, log_of};
+ghost use Rattle.rad_core.specs.Core.{state_of, origin_of};
 
 use crate::installed::Installed;
 use crate::machine::Core;
@@ -22,7 +22,7 @@ impl<P: Policy, L> Core<P, L> {
         requires few { (state_of self.old).entries < 2 ^ 63 }
         ensures step { Step P.meaning (state_of self.old)
             (Install worker (load_seen load) listeners.now result) (state_of self.new) }
-        ensures log { log_of self.new ≡ log_of self.old }
+        ensures origin { origin_of self.new ≡ origin_of self.old }
     {
         self.entries += 1;
         match load {

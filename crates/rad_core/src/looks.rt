@@ -1,7 +1,7 @@
 ghost use Rattle.std.specs.Prelude.{◌≡◌, ◌<◌, ◌^◌};
 ghost use Rattle.rad_core.specs.Entry.{Look, Stop};
 ghost use Rattle.rad_core.specs.Step.{Step};
-ghost use Rattle.rad_core.specs.Core.{state_of, log_of};
+ghost use Rattle.rad_core.specs.Core.{state_of, origin_of};
 
 use crate::machine::Core;
 use crate::seen::Seen;
@@ -12,7 +12,7 @@ impl<P: Policy, L> Core<P, L> {
     pub fn look(&mut self, worker: u32) -> Seen
         requires few { (state_of self.old).entries < 2 ^ 63 }
         ensures step { Step P.meaning (state_of self.old) (Look worker result) (state_of self.new) }
-        ensures log { log_of self.new ≡ log_of self.old }
+        ensures origin { origin_of self.new ≡ origin_of self.old }
     {
         self.entries += 1;
         Seen {
@@ -30,7 +30,7 @@ impl<P: Policy, L> Core<P, L> {
     pub fn stop(&mut self, worker: u32)
         requires few { (state_of self.old).entries < 2 ^ 63 }
         ensures step { Step P.meaning (state_of self.old) (Stop worker) (state_of self.new) }
-        ensures log { log_of self.new ≡ log_of self.old }
+        ensures origin { origin_of self.new ≡ origin_of self.old }
     {
         self.entries += 1;
         self.is_stopped = true;

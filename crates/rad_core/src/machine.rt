@@ -25,13 +25,13 @@ pub struct Core<P, L> {
 impl<P: Policy, L> Core<P, L> {
     ghost use Rattle.std.specs.Prelude.{◌≡◌, IsUtf8};
     ghost use Rattle.rad_core.specs.State.{opening};
-    ghost use Rattle.rad_core.specs.Core.{state_of, log_of};
+    ghost use Rattle.rad_core.specs.Core.{state_of, log_of, origin_of};
 
     /// A core on which nothing has happened, with the session log at a path, which is UTF-8.
     pub fn new(alloc: Global, log: L, path: Octets) -> Core<P, L>
         requires { IsUtf8 path }
         ensures state { state_of result ≡ opening }
-        ensures log { log_of result ≡ log }
+        ensures origin { origin_of result ≡ (log, path) }
     {
         Core {
             alloc,

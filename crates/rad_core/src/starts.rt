@@ -5,7 +5,7 @@ ghost use Rattle.rad_core.specs.Entry.{Start};
 ghost use Rattle.rad_core.specs.Step.{Step, IsNew, IsDroppedFor, IsTaken, Judges};
 ghost use Rattle.rad_policy.specs.Seen.{arrived_of};
 ghost use Rattle.rad_core.specs.Answers.{answer_seen, IsTicketOf, Admits};
-ghost use Rattle.rad_core.specs.Core.{state_of, log_of};
+ghost use Rattle.rad_core.specs.Core.{state_of, origin_of};
 
 use crate::machine::Core;
 use crate::row::Row;
@@ -29,9 +29,23 @@ impl<P: Policy, L> Core<P, L> {
             (state_of self.new) }
         ensures ticket { IsTicketOf (state_of self.new) result }
         ensures buffer { reply.new ≡ reply.old }
-        ensures log { log_of self.new ≡ log_of self.old }
+        ensures origin { origin_of self.new ≡ origin_of self.old }
     {
         let _ = reply;
+        self.answer(arrival)
+    }
+
+    /// What a datagram of an auth listener is answered.
+    pub(crate) fn answer(&mut self, arrival: &Arrival) -> Started<P>
+        requires installed { IsSome (state_of self.old).present }
+        requires auth { arrival.now.kind ≡ Auth }
+        requires new { IsNew (state_of self.old) (arrived_of arrival.now) }
+        requires few { (state_of self.old).entries < 2 ^ 63 }
+        ensures step { Step P.meaning (state_of self.old) (Start (arrived_of arrival.entry.now) (answer_seen result))
+            (state_of self.new) }
+        ensures ticket { IsTicketOf (state_of self.new) result }
+        ensures origin { origin_of self.new ≡ origin_of self.old }
+    {
         self.pass_to(arrival.now);
         let started = self.judge(arrival);
         self.entries += 1;
@@ -41,7 +55,7 @@ impl<P: Policy, L> Core<P, L> {
     /// The moment rule: the moment becomes the greater of itself and the clock's seconds, up to the last moment.
     fn pass_to(&mut self, now: u64)
         ensures state { state_of self.new ≡ at_moment now (state_of self.old) }
-        ensures log { log_of self.new ≡ log_of self.old }
+        ensures origin { origin_of self.new ≡ origin_of self.old }
     {
         self.moment = self.moment.max(now.min(LAST_MOMENT));
     }
@@ -53,7 +67,7 @@ impl<P: Policy, L> Core<P, L> {
         requires new { IsNew (state_of self.old) (arrived_of arrival.now) }
         ensures answer { Judges P.meaning (state_of self.old) (arrived_of arrival.entry.now) (answer_seen result) (state_of self.new) }
         ensures ticket { IsTicketOf (state_of self.new) result }
-        ensures log { log_of self.new ≡ log_of self.old }
+        ensures origin { origin_of self.new ≡ origin_of self.old }
     {
         match self.checked(arrival) {
             Err(cause) => Started::Dropped(cause),
@@ -86,7 +100,7 @@ impl<P: Policy, L> Core<P, L> {
         requires { IsSome (state_of self.old).present }
         ensures ok { IfOk result (λ ticket. Admits (state_of self.old) (arrived_of arrival.entry.now) ticket (state_of self.new)) }
         ensures err { OnErr result (state_of self.new ≡ state_of self.old) }
-        ensures log { log_of self.new ≡ log_of self.old }
+        ensures origin { origin_of self.new ≡ origin_of self.old }
     {
         let Some(generation) = &self.present else {
             unreachable!()

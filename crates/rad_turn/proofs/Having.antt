@@ -64,7 +64,7 @@ module _ {S M R E O B : Type 0} (stands : S → List E → Type 0) (origin : S �
 
     stands_now : Stood stands origin v.origin (has.0 ++ entry old before reply after new ∷ []) after
     stands_now = record {
-      state = changes.state has.0 stood.state (follow has.0 before stood (has.3.between, sym has.3.is) has.3.mine has.4);
+      state = changes.state has.0 stood.state (follow has.0 before stood has.3 has.4);
       whence = changes.whence ∙ stood.whence;
     }
 

@@ -1,12 +1,11 @@
 -- What a turn asks and leaves.
 use Rattle.std.specs.Prelude.{◌≡◌, ℕ, ◌^◌, ◌<◌, List, [], ◌∷◌, ◌++◌, length}
-use mathlib.Core.List.{IsPrefix}
 use Rattle.rad_turn.specs.declared.view.View.{View}
 use Rattle.rad_turn.specs.Views.{entries_of, Learns, Stood}
 
--- the step may be applied after every history that begins with what the seat has seen, has no further entry of the seat's name, and has fewer than 2^62 entries
+-- the step may be applied after every history that the seat can find: one that begins with what the seat has seen, has no further entry of the seat's name and, for the first seat, no further one but of names that are out, and has fewer than 2^62 entries
 abbrev pub MayFollow : {S E O B : Type 0} → (S → List E → Type 0) → (S → O) → (E → ℕ) → View E O B → (List E → Type 0) → Type 0
-MayFollow {S} {E} stands origin by v may = (log : List E) (value : S) → Stood stands origin v.origin log value → IsPrefix v.seen log → entries_of by v.name log ≡ entries_of by v.name v.seen → length log < 2 ^ 62 → may log
+MayFollow {S} {E} stands origin by v may = (log : List E) (value : S) → Stood stands origin v.origin log value → Learns by v log → length log < 2 ^ 62 → may log
 
 -- A turn was had. The history before it begins with all that the seat had seen, and has no further entry of its name; it ends now with the step's entry.
 -- The step was applied to the value that stood for the history before, and left the one that stands for the history now

@@ -6,7 +6,8 @@ use Rattle.rad_outside.specs.Crew.{Handed}
 use Rattle.rad_outside.specs.Telling.{Tells}
 use Rattle.rad_core.specs.declared.installed.Installed.{Installed}
 use Rattle.rad_core.specs.State.{ServerState, opening}
-use Rattle.rad_core.specs.Entry.{Entry, Install}
+use Rattle.rad_core.specs.declared.entry.Entry.{Entry}
+use Rattle.rad_core.specs.declared.entry.Entry.TheVariants.{Install}
 use Rattle.rad_core.specs.Step.{after, IsLegal}
 use Rattle.rad_core.specs.Worker.{Placed, placed, of_worker, served, IsClosed, IsOwn}
 use Rattle.rad_core.proofs.Histories.{run-append, IsLegal-append, of_worker-own}
@@ -129,7 +130,7 @@ module _ {W S K U G L : Type 0} (tells : KitTells W K U) (status : ℕ) (crew_be
         served_in_order = (
           record {
             received = told.served_in_order;
-            own = subst (λ n. AllByRecursion (IsAt 0 n handed.listen) (served mine)) (sym told.listener) told.own;
+            own = told.own;
             closed = told.closed;
           },
           tt,

@@ -2,7 +2,7 @@
 use Rattle.std.proofs.Common.{◌++◌, List, [], ◌∷◌, Option, Some, None, ap, sym, ◌∙◌, append_assoc, append-nil, IsTrue}
 use Rattle.rad_outside.specs.declared.wire.Heard.TheVariants as heard
 use Rattle.rad_outside.specs.Telling.{Tells}
-use Rattle.rad_core.specs.Entry.{Look, Stop}
+use Rattle.rad_core.specs.declared.entry.Entry.TheVariants.{Look, Stop}
 use Rattle.rad_core.specs.Worker.{Placed, At, OnlyServes, is_service}
 use Rattle.rad_site.specs.declared.fault.BuildFault.{BuildFault}
 use Rattle.radiusd.specs.declared.left.Left.{Left}
@@ -53,7 +53,7 @@ module _ {W K U : Type 0} (tells : KitTells W K U) (a b c : W) (xs ys : List (Pl
     leaves.1,
     Tells-trans StaysOpen (tells.wire a) (tells.wire b) (tells.wire c) StaysOpen-join first.1 leaves.2,
   )
-  Leaves-join (Some left.NoMemory) first leaves = (
+  Leaves-join (Some left.Worn) first leaves = (
     both_serve xs ys first.0 leaves.0,
     Tells-trans StaysOpen (tells.wire a) (tells.wire b) (tells.wire c) StaysOpen-join first.1 leaves.1,
   )

@@ -8,3 +8,4 @@ pub mod Passes
 pub mod Installs
 pub mod Headlines
 pub mod Statuses
+pub mod Tallies

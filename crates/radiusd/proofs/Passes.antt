@@ -12,7 +12,8 @@ use Rattle.rad_outside.specs.Wire.{WireTold}
 use Rattle.rad_policy.specs.declared.arrival.Arrived.{Arrived}
 use Rattle.rad_core.specs.declared.seen.Seen.{Seen}
 use Rattle.rad_core.specs.State.{ServerState, opening}
-use Rattle.rad_core.specs.Entry.{Entry, Look, Stop}
+use Rattle.rad_core.specs.declared.entry.Entry.{Entry}
+use Rattle.rad_core.specs.declared.entry.Entry.TheVariants.{Look, Stop}
 use Rattle.rad_core.specs.Step.{after, run, IsLegal}
 use Rattle.rad_core.specs.Worker.{Placed, At, placed, Answer, IsOwn}
 use Rattle.rad_core.proofs.Histories.{run-append, placed-append, IsLegal-append}
@@ -23,6 +24,7 @@ use Rattle.rad_site.specs.Site.{Site}
 use Rattle.rad_site.specs.Meaning.{site_meaning}
 use Rattle.radiusd.specs.History.{state_after, Adds}
 use Rattle.radiusd.specs.Told.{Told, KitTells, IsAt, Hears, Sends, GrowsBy, events, datagram_of}
+use Rattle.radiusd.specs.Statuses.{IsFull}
 use Rattle.radiusd.specs.Leaving.{Leaves, StaysOpen, IsOpen}
 use Rattle.radiusd.specs.Serving.{Serves, GoesOn, arrival_at}
 use Rattle.radiusd.proofs.Telling.{Tells-trans, Tells-same, Tells-weaker, All-append}
@@ -60,8 +62,8 @@ module _ {W S K U G : Type 0} (tells : KitTells W K U) (worker : ℕ) (listen : 
   no_words old new luck = subst (λ (u : U). Tells (tells.luck old.luck) (tells.luck u) (GrowsBy [])) (sym luck) (Tells-same (GrowsBy []) (tells.luck old.luck) (λ x. sym (append-nil x)))
 
   -- the kit tells of nothing but an answer of its wire for which there is no entry
-  pub goes_on_idly : (history : List (Entry Site BuildFault)) (old new : Kit W S K U G) (answer : Heard) (left : Option Left) → SameButWire old new → Tells (tells.wire old.wire) (tells.wire new.wire) (OnlyHears answer) → events (answer ∷ []) ≡ [] → Leaves tells left old.wire new.wire [] → ¬ (left ≡ Some leaving.Stopped) → GoesOn tells worker listen left history history old new
-  goes_on_idly history old new answer left same wire idle leaves unstopped = record {
+  pub goes_on_idly : (history : List (Entry Site BuildFault)) (old new : Kit W S K U G) (answer : Heard) (left : Option Left) → SameButWire old new → Tells (tells.wire old.wire) (tells.wire new.wire) (OnlyHears answer) → events (answer ∷ []) ≡ [] → Leaves tells left old.wire new.wire [] → ¬ (left ≡ Some leaving.Stopped) → ¬ (left ≡ Some leaving.Worn) → GoesOn tells worker listen left history history old new
+  goes_on_idly history old new answer left same wire idle leaves unstopped unworn = record {
     added = [];
     grows = sym (append-nil history);
     legal = tt;
@@ -81,11 +83,12 @@ module _ {W S K U G : Type 0} (tells : KitTells W K U) (worker : ℕ) (listen : 
     };
     leaves = leaves;
     stop = λ is. absurd (unstopped is);
+    worn = λ is. absurd (unworn is);
   }
 
   -- the kit tells of nothing at all
-  pub goes_on_still : (history : List (Entry Site BuildFault)) (kit : Kit W S K U G) (left : Option Left) → Leaves tells left kit.wire kit.wire [] → ¬ (left ≡ Some leaving.Stopped) → GoesOn tells worker listen left history history kit kit
-  goes_on_still history kit left leaves unstopped = record {
+  pub goes_on_still : (history : List (Entry Site BuildFault)) (kit : Kit W S K U G) (left : Option Left) → Leaves tells left kit.wire kit.wire [] → ¬ (left ≡ Some leaving.Stopped) → (left ≡ Some leaving.Worn → IsFull history) → GoesOn tells worker listen left history history kit kit
+  goes_on_still history kit left leaves unstopped worn = record {
     added = [];
     grows = sym (append-nil history);
     legal = tt;
@@ -94,11 +97,12 @@ module _ {W S K U G : Type 0} (tells : KitTells W K U) (worker : ℕ) (listen : 
     told = Told-same tells worker listen kit;
     leaves = leaves;
     stop = λ is. absurd (unstopped is);
+    worn = worn;
   }
 
   -- nothing came, and the worker looked
-  pub goes_on_look : (before now : List (Entry Site BuildFault)) (old new : Kit W S K U G) (seen : Seen) (left : Option Left) → SameButWire old new → Tells (tells.wire old.wire) (tells.wire new.wire) (OnlyHears heard.Quiet) → Adds before now (Look worker seen) → Leaves tells left old.wire new.wire (At (state_after before) (Look worker seen) ∷ []) → (left ≡ Some leaving.Stopped → IsTrue seen.stopped) → GoesOn tells worker listen left before now old new
-  goes_on_look before now old new seen left same wire adds leaves shows =
+  pub goes_on_look : (before now : List (Entry Site BuildFault)) (old new : Kit W S K U G) (seen : Seen) (left : Option Left) → SameButWire old new → Tells (tells.wire old.wire) (tells.wire new.wire) (OnlyHears heard.Quiet) → Adds before now (Look worker seen) → Leaves tells left old.wire new.wire (At (state_after before) (Look worker seen) ∷ []) → (left ≡ Some leaving.Stopped → IsTrue seen.stopped) → ¬ (left ≡ Some leaving.Worn) → GoesOn tells worker listen left before now old new
+  goes_on_look before now old new seen left same wire adds leaves shows unworn =
       let state = state_after_one before now (Look worker seen) adds.grows in
       record {
         added = Look worker seen ∷ [];
@@ -120,11 +124,12 @@ module _ {W S K U G : Type 0} (tells : KitTells W K U) (worker : ℕ) (listen : 
         };
         leaves = leaves;
         stop = λ is. subst IsTrue (ap (λ (s : Seen). s.stopped) adds.may ∙ sym (ap (λ (s : ServerState Site). s.is_stopped) state)) (shows is);
+        worn = λ is. absurd (unworn is);
       }
 
   -- the wire failed, and the worker stopped the server
-  pub goes_on_stop : (before now : List (Entry Site BuildFault)) (old new : Kit W S K U G) (left : Option Left) → SameButWire old new → Tells (tells.wire old.wire) (tells.wire new.wire) (OnlyHears heard.Failed) → Adds before now (Stop worker) → Leaves tells left old.wire new.wire (At (state_after before) (Stop worker) ∷ []) → ¬ (left ≡ Some leaving.Stopped) → GoesOn tells worker listen left before now old new
-  goes_on_stop before now old new left same wire adds leaves unstopped =
+  pub goes_on_stop : (before now : List (Entry Site BuildFault)) (old new : Kit W S K U G) (left : Option Left) → SameButWire old new → Tells (tells.wire old.wire) (tells.wire new.wire) (OnlyHears heard.Failed) → Adds before now (Stop worker) → Leaves tells left old.wire new.wire (At (state_after before) (Stop worker) ∷ []) → ¬ (left ≡ Some leaving.Stopped) → ¬ (left ≡ Some leaving.Worn) → GoesOn tells worker listen left before now old new
+  goes_on_stop before now old new left same wire adds leaves unstopped unworn =
       let state = state_after_one before now (Stop worker) adds.grows in
       record {
         added = Stop worker ∷ [];
@@ -146,6 +151,7 @@ module _ {W S K U G : Type 0} (tells : KitTells W K U) (worker : ℕ) (listen : 
         };
         leaves = leaves;
         stop = λ is. absurd (unstopped is);
+        worn = λ is. absurd (unworn is);
       }
 
   -- a datagram was heard and served
@@ -180,6 +186,7 @@ module _ {W S K U G : Type 0} (tells : KitTells W K U) (worker : ℕ) (listen : 
         };
         leaves = (passes.turn.service, Tells-trans StaysOpen (tells.wire old.wire) (tells.wire mid.wire) (tells.wire new.wire) (λ x y z h s. (heard.Datagram octets from ∷ [], s.0 ∙ h.0, (tt, tt))) wire serves.wire);
         stop = λ is. cc;
+        worn = λ is. cc;
       }
 
   -- one run after another
@@ -202,4 +209,5 @@ module _ {W S K U G : Type 0} (tells : KitTells W K U) (worker : ℕ) (listen : 
         leaves = subst (λ (ps : List (Placed Site BuildFault)). Leaves tells left a.wire c.wire ps) all
             (Leaves-join tells a.wire b.wire c.wire xs ys left first.leaves second.leaves);
         stop = second.stop;
+        worn = second.worn;
       }

@@ -95,6 +95,7 @@ unfinished status.Configuration other = λ e. omega arith
 unfinished status.ReadFault other = λ e. omega arith
 unfinished status.SocketFault other = λ e. omega arith
 unfinished status.PrintFault other = λ e. omega arith
+unfinished status.Worn other = λ e. omega arith
 unfinished status.NoMemory other = λ e. omega arith
 
 pub finished : (ended : Status) → number_of ended ≡ 0 → ended ≡ status.Done
@@ -104,6 +105,7 @@ finished status.Configuration e = absurd (omega arith)
 finished status.ReadFault e = absurd (omega arith)
 finished status.SocketFault e = absurd (omega arith)
 finished status.PrintFault e = absurd (omega arith)
+finished status.Worn e = absurd (omega arith)
 finished status.NoMemory e = absurd (omega arith)
 
 -- a run that couldn't be served is unfinished
@@ -111,6 +113,13 @@ pub unserved : (ended : Status) (A : Type 0) → ((ended ≡ status.SocketFault)
 unserved ended A which = unfinished ended (elim which [
   | inl fault ↦ λ (done : ended ≡ status.Done). cc
   | inr memory ↦ λ (done : ended ≡ status.Done). cc
+])
+
+-- nor is one whose generation wasn't installed
+pub uninstalled : (ended : Status) (A : Type 0) → (ended ≡ status.NoMemory) ⊎ ((ended ≡ status.Worn) × A) → ¬ (number_of ended ≡ 0)
+uninstalled ended A which = unfinished ended (elim which [
+  | inl memory ↦ λ (done : ended ≡ status.Done). cc
+  | inr worn ↦ λ (done : ended ≡ status.Done). cc
 ])
 
 module _ (a b : Option (List ℕ)) (before now : ℕ) (ended : Status) where

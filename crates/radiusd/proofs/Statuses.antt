@@ -4,6 +4,7 @@ use Rattle.rad_outside.specs.declared.crew.Kit.{Kit}
 use Rattle.rad_outside.specs.Telling.{Tells, Rose}
 use Rattle.rad_outside.specs.Files.{File, FilesTold, begun}
 use Rattle.rad_policy.specs.Policy.{IsBuilt}
+use Rattle.rad_core.specs.declared.entry.Entry.{Entry}
 use Rattle.rad_site.specs.declared.fault.BuildFault.{BuildFault}
 use Rattle.rad_site.specs.declared.fault.BuildFault.TheVariants as fault
 use Rattle.radiusd.specs.declared.status.Status.{Status}
@@ -14,7 +15,7 @@ use Rattle.rad_site.specs.Meaning.{site_meaning}
 use Rattle.radiusd.specs.Words.{folder_in}
 use Rattle.radiusd.specs.Printing.{Prints}
 use Rattle.radiusd.specs.Course.{IsCourse, Unbuilt, Serving, fault_line, HasDeafWire}
-use Rattle.radiusd.specs.Statuses.{number_of, status_of, IsServing, IsSiteFault, IsRefused, FaultGives, SiteGives, NothingFailed, IsListed}
+use Rattle.radiusd.specs.Statuses.{number_of, status_of, IsServing, IsSiteFault, IsRefused, FaultGives, SiteGives, NothingFailed, IsListed, IsFull}
 use Rattle.radiusd.proofs.Telling.{Tells-same, Tells-weaker}
 use Rattle.radiusd.proofs.Printings.{Prints-weaker}
 
@@ -69,7 +70,7 @@ pub unbuilt_course : (words : List (List ℕ)) (folder : List ℕ) (wrong : Buil
 unbuilt_course words folder wrong files_before files_now words_are told = (
   folder,
   words_are,
-  Tells-weaker (λ (before now : FilesTold). IsBuilt site_meaning (record { files = (begun before).present; folder = folder }) (Err wrong)) files_before files_now (λ before now t. t.1) told,
+  told,
 )
 
 pub serving_course : (words : List (List ℕ)) (folder : List ℕ) (site : Site) (files_before files_now : Option FilesTold)
@@ -79,7 +80,7 @@ pub serving_course : (words : List (List ℕ)) (folder : List ℕ) (site : Site)
 serving_course words folder site files_before files_now words_are told = (
   folder,
   words_are,
-  Tells-weaker (λ (before now : FilesTold). built (record { files = (begun before).present; folder = folder }) ≡ Ok site) files_before files_now (λ before now t. t.1) told,
+  told,
 )
 
 -- a site is built to one thing
@@ -133,19 +134,21 @@ FaultGives-by_fault words wrong files_before files_now R ended told which =
     (λ (before now : FilesTold) t folder other words_are means. ends_refused wrong ended which) told
 
 -- a run that served, where nothing failed
-module _ {W S K U G : Type 0} (failures : W → ℕ) (files_before files_now crew_before crew_now sink_before sink_now : ℕ) (kits : List (Kit W S K U G)) where
+module _ {W S K U G : Type 0} (failures : W → ℕ) (files_before files_now crew_before crew_now sink_before sink_now : ℕ) (history : List (Entry Site BuildFault)) (kits : List (Kit W S K U G)) where
   pub serving_ends : (ended : Status) → IsServing ended
       → (ended ≡ status.SocketFault → Rose crew_before crew_now ⊎ HasDeafWire failures kits)
       → (ended ≡ status.PrintFault → Rose sink_before sink_now)
-      → NothingFailed failures files_before files_now crew_before crew_now sink_before sink_now kits
+      → (ended ≡ status.Worn → IsFull history)
+      → NothingFailed failures files_before files_now crew_before crew_now sink_before sink_now history kits
       → (ended ≡ status.Done) ⊎ (ended ≡ status.NoMemory)
-  serving_ends status.Done serving socket print fine = inl refl
-  serving_ends status.Words serving socket print fine = absurd serving
-  serving_ends status.Configuration serving socket print fine = absurd serving
-  serving_ends status.ReadFault serving socket print fine = absurd serving
-  serving_ends status.SocketFault serving socket print fine = elim (socket refl) [ inl rose ↦ absurd (fine.crew rose) | inr deaf ↦ absurd (fine.wires deaf) ]
-  serving_ends status.PrintFault serving socket print fine = absurd (fine.sink (print refl))
-  serving_ends status.NoMemory serving socket print fine = inr refl
+  serving_ends status.Done serving socket print worn fine = inl refl
+  serving_ends status.Words serving socket print worn fine = absurd serving
+  serving_ends status.Configuration serving socket print worn fine = absurd serving
+  serving_ends status.ReadFault serving socket print worn fine = absurd serving
+  serving_ends status.SocketFault serving socket print worn fine = elim (socket refl) [ inl rose ↦ absurd (fine.crew rose) | inr deaf ↦ absurd (fine.wires deaf) ]
+  serving_ends status.PrintFault serving socket print worn fine = absurd (fine.sink (print refl))
+  serving_ends status.Worn serving socket print worn fine = absurd (fine.turns (worn refl))
+  serving_ends status.NoMemory serving socket print worn fine = inr refl
 
 -- the end of a run that served
 pub SiteGives-serving : (words : List (List ℕ)) (Fine Ends : Type 0) (files_before files_now : Option FilesTold) (R : FilesTold → FilesTold → Type 0) → Tells files_before files_now R → (Fine → Ends) → SiteGives words Fine Ends files_before files_now
@@ -172,7 +175,8 @@ listed status.Configuration = inr (inr (inl refl))
 listed status.ReadFault = inr (inr (inr (inl refl)))
 listed status.SocketFault = inr (inr (inr (inr (inl refl))))
 listed status.PrintFault = inr (inr (inr (inr (inr (inl refl)))))
-listed status.NoMemory = inr (inr (inr (inr (inr (inr refl)))))
+listed status.Worn = inr (inr (inr (inr (inr (inr (inl refl))))))
+listed status.NoMemory = inr (inr (inr (inr (inr (inr (inr refl))))))
 
 -- an end of a run as the number of its status
 pub FaultGives-number : (words : List (List ℕ)) (files_before files_now : Option FilesTold) (ended : Status) (number : ℕ)

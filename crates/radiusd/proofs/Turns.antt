@@ -1,6 +1,7 @@
 -- What one datagram's way adds to the stored history.
-use Rattle.std.proofs.Common.{ℕ, ◌≡◌, ◌++◌, List, [], ◌∷◌, Option, Some, None, ap, sym, ◌∙◌, subst, append_assoc}
-use Rattle.std.proofs.lemmas.List.{map-append}
+use Rattle.std.proofs.Common.{ℕ, ◌≡◌, ◌+◌, ◌++◌, List, [], ◌∷◌, Bool, cond, Option, Some, None, refl, ap, sym, ◌∙◌, subst, append_assoc, arith}
+use Rattle.std.specs.List.{count_by}
+use Rattle.std.specs.Option.{is_some}
 use Rattle.std.specs.Arc.{arc_value}
 use Rattle.rad_policy.specs.declared.arrival.Arrived.{Arrived}
 use Rattle.rad_policy.specs.declared.ending.Ending.{Ending}
@@ -10,24 +11,27 @@ use Rattle.rad_core.specs.declared.started.StartAnswer.{StartAnswer}
 use Rattle.rad_core.specs.declared.started.StartAnswer.TheVariants.{Dropped, Fresh, NoRoom}
 use Rattle.rad_core.specs.declared.started.Ticket.{Ticket}
 use Rattle.rad_core.specs.State.{ServerState, at_moment}
-use Rattle.rad_core.specs.Entry.{Entry, Start, Finish}
+use Rattle.rad_core.specs.declared.entry.Entry.{Entry}
+use Rattle.rad_core.specs.declared.entry.Entry.TheVariants.{Start, Finish}
 use Rattle.rad_core.specs.Step.{Step}
+use Rattle.rad_policy.specs.Policy.{IsAuthenticUnder}
 use Rattle.rad_policy.specs.Seen.{ending_seen, GivesOutcome}
 use Rattle.rad_core.specs.Answers.{IsHeld}
 use Rattle.rad_core.specs.Worker.{Answer, reply_of, IsOutcome, Passes}
+use Rattle.rad_turn.specs.declared.view.View.{View}
+use Rattle.rad_core.specs.Behind.{TurnAdds}
+use Rattle.rad_core.proofs.Behind.{alone_adds}
 use Rattle.rad_core.proofs.Turns.{passes_dropped, passes_no_room, passes_fresh, held_after_start, fresh_present, moment_after}
 use Rattle.rad_site.specs.declared.fault.BuildFault.{BuildFault}
-use Rattle.radiusd.specs.declared.entry.StoredEntry.{StoredEntry}
-use Rattle.radiusd.specs.declared.entry.StoredEntry.TheVariants as stored
 use Rattle.radiusd.specs.declared.turn.Reply.{Reply}
 use Rattle.rad_site.specs.Site.{Site}
 use Rattle.rad_site.specs.Meaning.{site_meaning}
-use Rattle.radiusd.specs.History.{entry_seen, history_of}
-use Rattle.radiusd.specs.Turn.{AddsTurn, answers_of, IsCopied}
-
--- one more stored entry is one more of the history
-pub history_of-push : (entries more : List StoredEntry) (entry : StoredEntry) → more ≡ entries ++ entry ∷ [] → history_of more ≡ history_of entries ++ entry_seen entry ∷ []
-history_of-push entries more entry e = ap history_of e ∙ map-append entry_seen entries (entry ∷ [])
+use Rattle.radiusd.specs.History.{IsAlone, state_after}
+use Rattle.radiusd.specs.Turn.{AddsTurn, CountsTurn, answers_of, IsCopied}
+use Rattle.radiusd.specs.declared.counts.Tally.{Tally}
+use Rattle.radiusd.specs.Counting.{sends, tally_of, is_request, is_reply, is_install, is_refusal}
+use Rattle.radiusd.proofs.Kept.{grows, stepped}
+use Rattle.radiusd.proofs.Tallies.{tally_push, same_tally, length_push}
 
 -- the answer isn't that of a fresh request
 abbrev pub IsUnfresh : StartAnswer → Type 0
@@ -41,14 +45,21 @@ passes_unfresh old new arrival luck NoRoom unfresh idle step = passes_no_room si
 passes_unfresh old new arrival luck (Fresh place) unfresh idle step = absurd unfresh
 
 -- a start that isn't fresh is one entry, and has no reply
-pub turn_unfresh : (old new : ServerState Site) (entries more : List StoredEntry) (arrival copy : Arrived) (answer kept : StartAnswer) (luck : ℕ) → more ≡ entries ++ stored.Start copy kept ∷ [] → copy ≡ arrival → kept ≡ answer → IsUnfresh answer → old.table ≡ [] → Step site_meaning old (Start arrival answer) new → AddsTurn (history_of entries) (history_of more) old new arrival luck []
-turn_unfresh old new entries more arrival copy answer kept luck pushed same_arrival same_answer unfresh idle step = (
+pub turn_unfresh : {O B : Type 0} (v w : View (Entry Site BuildFault) O B) (arrival : Arrived) (answer : StartAnswer) (luck : ℕ) → IsUnfresh answer → IsAlone v → TurnAdds site_meaning v w (Start arrival answer) → AddsTurn v.seen w.seen (state_after v.seen) (state_after w.seen) arrival luck []
+turn_unfresh v w arrival answer luck unfresh alone adds = (
   Start arrival answer ∷ [],
-  history_of-push entries more (stored.Start copy kept) pushed
-      ∙ ap (λ (a : Arrived). history_of entries ++ Start a kept ∷ []) same_arrival
-      ∙ ap (λ (k : StartAnswer). history_of entries ++ Start arrival k ∷ []) same_answer,
-  passes_unfresh old new arrival luck answer unfresh idle step,
+  grows v w (Start arrival answer) alone adds,
+  passes_unfresh (state_after v.seen) (state_after w.seen) arrival luck answer unfresh alone.kept.idle (stepped v w (Start arrival answer) alone adds),
 )
+
+-- and counts as a request without a reply
+pub counts_unfresh : {O B : Type 0} (v w : View (Entry Site BuildFault) O B) (arrival : Arrived) (answer : StartAnswer) → IsAlone v → TurnAdds site_meaning v w (Start arrival answer) → CountsTurn v.seen w.seen (record { entries = 1; reply = None })
+counts_unfresh v w arrival answer alone adds = record {
+  more = length_push v.seen w.seen (Start arrival answer) (grows v w (Start arrival answer) alone adds);
+  few = omega arith;
+  tally = tally_push v.seen w.seen (Start arrival answer) (grows v w (Start arrival answer) alone adds)
+      ∙ same_tally _ _ (count_by is_install v.seen + 0) (count_by is_refusal v.seen + 0) _ _ (count_by is_install v.seen) (count_by is_refusal v.seen) refl refl (omega arith) (omega arith);
+}
 
 -- the copied reply is that of the outcome
 copied_reply : (arrival : Arrived) (outcome : Outcome) (reply : Option Reply) (buffer : List ℕ) → IsCopied outcome reply buffer → reply_of arrival (Some (ending_seen outcome)) ≡ answers_of arrival reply buffer
@@ -56,6 +67,13 @@ copied_reply arrival (outcome.Sent octets) (Some reply) buffer copied = ap (λ o
 copied_reply arrival (outcome.Sent octets) None buffer copied = absurd copied
 copied_reply arrival outcome.Withheld reply buffer copied = ap (λ (r : Option Reply). answers_of arrival r buffer) (sym copied)
 copied_reply arrival outcome.NoMemory reply buffer copied = ap (λ (r : Option Reply). answers_of arrival r buffer) (sym copied)
+
+-- the copied reply is there where the ending sends one
+sends_copied : (outcome : Outcome) (reply : Option Reply) (buffer : List ℕ) → IsCopied outcome reply buffer → sends (ending_seen outcome) ≡ is_some reply
+sends_copied (outcome.Sent octets) (Some reply) buffer copied = refl
+sends_copied (outcome.Sent octets) None buffer copied = absurd copied
+sends_copied outcome.Withheld reply buffer copied = ap is_some (sym copied)
+sends_copied outcome.NoMemory reply buffer copied = ap is_some (sym copied)
 
 module _ (old mid : ServerState Site) (arrival : Arrived) (ticket : Ticket Site) (luck : ℕ) (outcome : Outcome) where
   -- the request of a ticket is in progress after its start
@@ -69,18 +87,55 @@ module _ (old mid : ServerState Site) (arrival : Arrived) (ticket : Ticket Site)
       (sym moment ∙ moment_after site_meaning old mid arrival ticket.place (arc_value ticket.generation) (sym (fresh_present site_meaning old mid arrival ticket.place step) ∙ present) step)
       given
 
+-- a fresh request is authentic under the generation of its ticket
+pub authentic_at_place : (old mid : ServerState Site) (arrival : Arrived) (ticket : Ticket Site) → mid.present ≡ Some (arc_value ticket.generation) → Step site_meaning old (Start arrival (Fresh ticket.place)) mid → IsAuthenticUnder site_meaning (arc_value ticket.generation) arrival
+authentic_at_place old mid arrival ticket present step =
+    let both : Some step.may.1.0 ≡ Some (arc_value ticket.generation) = sym step.may.1.1 ∙ sym (fresh_present site_meaning old mid arrival ticket.place step) ∙ present in
+    let same : step.may.1.0 ≡ arc_value ticket.generation = cc in
+    subst (λ (g : Site). IsAuthenticUnder site_meaning g arrival) same step.may.1.2.0
+
+module _ {O B : Type 0} (v m w : View (Entry Site BuildFault) O B) (arrival : Arrived) (ticket : Ticket Site) (luck : ℕ) (outcome : Outcome) where
   -- a fresh request and its finish are two entries, and have the reply that was copied
-  pub turn_fresh : (new : ServerState Site) (entries first second : List StoredEntry) (copy : Arrived) (kept : StartAnswer) (ending : Ending) (reply : Option Reply) (buffer : List ℕ) → first ≡ entries ++ stored.Start copy kept ∷ [] → copy ≡ arrival → kept ≡ Fresh ticket.place → second ≡ first ++ stored.Finish arrival.worker ticket.place ending ∷ [] → ending ≡ ending_seen outcome → old.table ≡ [] → (mid.present ≡ Some (arc_value ticket.generation)) → mid.moment ≡ ticket.moment → Step site_meaning old (Start arrival (Fresh ticket.place)) mid → GivesOutcome site_meaning (arc_value ticket.generation) arrival ticket.moment luck outcome → Step site_meaning mid (Finish arrival.worker ticket.place (ending_seen outcome)) new → IsCopied outcome reply buffer → AddsTurn (history_of entries) (history_of second) old new arrival luck (answers_of arrival reply buffer)
-  turn_fresh new entries first second copy kept ending reply buffer pushed same_arrival same_answer pushed_again same_ending idle present moment step given last copied = (
-    Start arrival (Fresh ticket.place) ∷ Finish arrival.worker ticket.place (ending_seen outcome) ∷ [],
-    history_of-push first second (stored.Finish arrival.worker ticket.place ending) pushed_again
-        ∙ ap (λ (h : List (Entry Site BuildFault)). h ++ Finish arrival.worker ticket.place ending ∷ [])
-        (history_of-push entries first (stored.Start copy kept) pushed
-        ∙ ap (λ (a : Arrived). history_of entries ++ Start a kept ∷ []) same_arrival
-        ∙ ap (λ (k : StartAnswer). history_of entries ++ Start arrival k ∷ []) same_answer)
-        ∙ ap (λ (e : Ending). (history_of entries ++ Start arrival (Fresh ticket.place) ∷ []) ++ Finish arrival.worker ticket.place e ∷ []) same_ending
-        ∙ append_assoc (history_of entries) (Start arrival (Fresh ticket.place) ∷ []) (Finish arrival.worker ticket.place (ending_seen outcome) ∷ []),
-    subst (λ (replies : List Answer). Passes site_meaning old new (Start arrival (Fresh ticket.place) ∷ Finish arrival.worker ticket.place (ending_seen outcome) ∷ []) arrival luck replies)
-        (copied_reply arrival outcome reply buffer copied)
-        (passes_fresh site_meaning old mid new arrival luck ticket.place (ending_seen outcome) (arc_value ticket.generation) idle (sym (fresh_present site_meaning old mid arrival ticket.place step) ∙ present) (given_at_place present moment step given) step last),
-  )
+  pub turn_fresh : (reply : Option Reply) (buffer : List ℕ) → IsAlone v → m.name ≡ 0 → m.out ≡ [] → arrival.worker ≡ 0
+      → TurnAdds site_meaning v m (Start arrival (Fresh ticket.place)) → (state_after m.seen).present ≡ Some (arc_value ticket.generation) → (state_after m.seen).moment ≡ ticket.moment
+      → GivesOutcome site_meaning (arc_value ticket.generation) arrival ticket.moment luck outcome
+      → TurnAdds site_meaning m w (Finish m.name ticket.place (ending_seen outcome)) → IsCopied outcome reply buffer
+      → AddsTurn v.seen w.seen (state_after v.seen) (state_after w.seen) arrival luck (answers_of arrival reply buffer)
+  turn_fresh reply buffer alone name out worker first present moment given second copied =
+      let old = state_after v.seen in
+      let mid = state_after m.seen in
+      let new = state_after w.seen in
+      let start = Start arrival (Fresh ticket.place) in
+      let finish = Finish arrival.worker ticket.place (ending_seen outcome) in
+      let finished : TurnAdds site_meaning m w finish = subst (λ (n : ℕ). TurnAdds site_meaning m w (Finish n ticket.place (ending_seen outcome))) (name ∙ sym worker) second in
+      let begun : (m.seen ≡ v.seen ++ start ∷ []) × Step site_meaning old start mid = alone_adds site_meaning v m alone.name alone.out start first in
+      let ended : (w.seen ≡ m.seen ++ finish ∷ []) × Step site_meaning mid finish new = alone_adds site_meaning m w name out finish finished in (
+        start ∷ finish ∷ [],
+        ended.0 ∙ ap (λ (h : List (Entry Site BuildFault)). h ++ finish ∷ []) begun.0 ∙ append_assoc v.seen (start ∷ []) (finish ∷ []),
+        subst (λ (replies : List Answer). Passes site_meaning old new (start ∷ finish ∷ []) arrival luck replies)
+            (copied_reply arrival outcome reply buffer copied)
+            (passes_fresh site_meaning old mid new arrival luck ticket.place (ending_seen outcome) (arc_value ticket.generation) alone.kept.idle (sym (fresh_present site_meaning old mid arrival ticket.place begun.1) ∙ present) (given_at_place old mid arrival ticket luck outcome present moment begun.1 given) begun.1 ended.1),
+      )
+
+  -- and count as a request and its reply
+  pub counts_fresh : (reply : Option Reply) (buffer : List ℕ) → IsAlone v → m.name ≡ 0 → m.out ≡ []
+      → TurnAdds site_meaning v m (Start arrival (Fresh ticket.place)) → TurnAdds site_meaning m w (Finish m.name ticket.place (ending_seen outcome)) → IsCopied outcome reply buffer
+      → CountsTurn v.seen w.seen (record { entries = 2; reply = reply })
+  counts_fresh reply buffer alone name out first second copied =
+      let start = Start arrival (Fresh ticket.place) in
+      let finish = Finish m.name ticket.place (ending_seen outcome) in
+      let begun : m.seen ≡ v.seen ++ start ∷ [] = (alone_adds site_meaning v m alone.name alone.out start first).0 in
+      let ended : w.seen ≡ m.seen ++ finish ∷ [] = (alone_adds site_meaning m w name out finish second).0 in
+      let mid = tally_push v.seen m.seen start begun in
+      let requests : count_by is_request m.seen ≡ count_by is_request v.seen + 1 = ap (λ (t : Tally). t.requests) mid in
+      let replies : count_by is_reply m.seen ≡ count_by is_reply v.seen + 0 = ap (λ (t : Tally). t.replies) mid in
+      let installs : count_by is_install m.seen ≡ count_by is_install v.seen + 0 = ap (λ (t : Tally). t.installs) mid in
+      let refused : count_by is_refusal m.seen ≡ count_by is_refusal v.seen + 0 = ap (λ (t : Tally). t.refused) mid in
+      let first_more = length_push v.seen m.seen start begun in
+      let second_more = length_push m.seen w.seen finish ended in
+      record {
+        more = omega (arith, first_more, second_more);
+        few = omega arith;
+        tally = tally_push m.seen w.seen finish ended
+            ∙ same_tally (count_by is_request m.seen + 0) _ (count_by is_install m.seen + 0) (count_by is_refusal m.seen + 0) (count_by is_request v.seen + 1) _ (count_by is_install v.seen) (count_by is_refusal v.seen) (omega (arith, requests)) (ap (λ n. n + cond (sends (ending_seen outcome)) 1 0) (replies ∙ omega arith) ∙ ap (λ (b : Bool). count_by is_reply v.seen + cond b 1 0) (sends_copied outcome reply buffer copied)) (omega (arith, installs)) (omega (arith, refused));
+      }

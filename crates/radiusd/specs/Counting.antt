@@ -1,15 +1,15 @@
 -- The counts of a run, over the entries that it added. This project's own.
-use Rattle.std.specs.Prelude.{Bool, true, false, List, drop}
+use Rattle.std.specs.Prelude.{ℕ, ◌+◌, ◌-◌, Bool, true, false, List, drop, if◌then◌else◌}
 use Rattle.std.specs.List.{count_by}
 use Rattle.rad_policy.specs.declared.ending.Ending.{Ending}
 use Rattle.rad_policy.specs.declared.ending.Ending.TheVariants.{Sent, Withheld, OutOfMemory}
 use Rattle.rad_core.specs.declared.installed.Installed.{Installed}
 use Rattle.rad_core.specs.declared.installed.Installed.TheVariants as installed
-use Rattle.rad_core.specs.Entry.{Entry, Start, Finish, Install, Look, Stop}
+use Rattle.rad_core.specs.declared.entry.Entry.{Entry}
+use Rattle.rad_core.specs.declared.entry.Entry.TheVariants.{Start, Finish, Install, Look, Stop}
 use Rattle.rad_site.specs.declared.fault.BuildFault.{BuildFault}
 use Rattle.radiusd.specs.declared.counts.Counts.{Counts}
-use Rattle.radiusd.specs.declared.counts.Counted.{Counted}
-use Rattle.radiusd.specs.declared.counts.Counted.TheVariants as counted
+use Rattle.radiusd.specs.declared.counts.Tally.{Tally}
 use Rattle.radiusd.specs.Installing.{is_present_by}
 use Rattle.rad_site.specs.Site.{Site}
 
@@ -55,18 +55,43 @@ is_refusal (Install worker load listeners answer) = leaves_present answer
 is_refusal (Look worker seen) = false
 is_refusal (Stop worker) = false
 
--- Whether an entry counts as this.
-unfoldable pub is_counted : Counted → Entry Site BuildFault → Bool
-is_counted counted.Request entry = is_request entry
-is_counted counted.Reply entry = is_reply entry
-is_counted counted.Install entry = is_install entry
-is_counted counted.Refusal entry = is_refusal entry
-
 -- Starts, replies, installs but for the one at the start, which is the first entry, and refused installs.
 abbrev pub counts_of : List (Entry Site BuildFault) → Counts
 counts_of added = record {
-  requests = count_by (is_counted counted.Request) added;
-  replies = count_by (is_counted counted.Reply) added;
-  reloads = count_by (is_counted counted.Install) (drop 1 added);
-  refused = count_by (is_counted counted.Refusal) added;
+  requests = count_by is_request added;
+  replies = count_by is_reply added;
+  reloads = count_by is_install (drop 1 added);
+  refused = count_by is_refusal added;
+}
+
+-- What a history counts: starts, replies, installs and refused installs.
+abbrev pub tally_of : List (Entry Site BuildFault) → Tally
+tally_of history = record {
+  requests = count_by is_request history;
+  replies = count_by is_reply history;
+  installs = count_by is_install history;
+  refused = count_by is_refusal history;
+}
+
+-- One request more, and its reply if it got one.
+abbrev pub with_request : Bool → Tally → Tally
+with_request is_replied tally = record tally {
+  requests = tally.requests + 1;
+  replies = tally.replies + (if is_replied then 1 else 0);
+}
+
+-- One load more, which is the present generation or was refused.
+abbrev pub with_load : Bool → Tally → Tally
+with_load is_present tally = record tally {
+  installs = tally.installs + (if is_present then 1 else 0);
+  refused = tally.refused + (if is_present then 0 else 1);
+}
+
+-- The counts of a run, from what was counted before it, behind its first load and by now.
+abbrev pub counts_between : Tally → Tally → Tally → Counts
+counts_between before loaded now = record {
+  requests = now.requests - before.requests;
+  replies = now.replies - before.replies;
+  reloads = now.installs - loaded.installs;
+  refused = now.refused - before.refused;
 }

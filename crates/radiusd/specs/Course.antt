@@ -7,7 +7,8 @@ use Rattle.rad_outside.specs.Crew.{Handed}
 use Rattle.rad_outside.specs.Files.{FilesTold, begun}
 use Rattle.rad_outside.specs.Telling.{Tells, Rose}
 use Rattle.rad_core.specs.declared.installed.Installed.{Installed}
-use Rattle.rad_core.specs.Entry.{Entry, Install}
+use Rattle.rad_core.specs.declared.entry.Entry.{Entry}
+use Rattle.rad_core.specs.declared.entry.Entry.TheVariants.{Install}
 use Rattle.rad_policy.specs.Policy.{IsBuilt}
 use Rattle.rad_site.specs.declared.fault.BuildFault.{BuildFault}
 use Rattle.rad_site.specs.declared.fault.BuildFault.TheVariants as fault
@@ -15,7 +16,7 @@ use Rattle.rad_site.specs.Built.{built}
 use Rattle.radiusd.specs.Counting.{counts_of}
 use Rattle.rad_site.specs.FaultText.{fault_text}
 use Rattle.radiusd.specs.History.{listener_of}
-use Rattle.radiusd.specs.Lines.{listening_line, counts_line, socket_fault_line, usage_line}
+use Rattle.radiusd.specs.Lines.{listening_line, counts_line, socket_fault_line, worn_line, usage_line}
 use Rattle.rad_site.specs.Meaning.{site_meaning}
 use Rattle.rad_site.specs.Site.{Site}
 use Rattle.radiusd.specs.Words.{folder_in}
@@ -27,15 +28,16 @@ pub data Course : Type 0 where
   Serving : (site : Site) → Course
 
 -- Whether a run took this course is a matter of its words and of the next map of its files: the site is what that map
--- is built to in the words' folder, and so is a fault, or it is a read fault or want of memory.
+-- is built to in the words' folder, and so is a fault, or it is a read fault or want of memory. The files have begun that
+-- map and no other; where the words are others they are as they were.
 abbrev pub IsCourse : List (List ℕ) → Option FilesTold → Option FilesTold → Course → Type 0
-IsCourse words files_before files_now Misworded = folder_in words ≡ None
+IsCourse words files_before files_now Misworded = (folder_in words ≡ None) × Tells files_before files_now (λ before now. now ≡ before)
 IsCourse words files_before files_now (Unbuilt wrong) = (folder : List ℕ) × (folder_in words ≡ Some folder)
-    × Tells files_before files_now (λ before now.
-    IsBuilt site_meaning (record { files = (begun before).present; folder = folder }) (Err wrong))
+    × Tells files_before files_now (λ before now. (now ≡ begun before)
+    × IsBuilt site_meaning (record { files = (begun before).present; folder = folder }) (Err wrong))
 IsCourse words files_before files_now (Serving site) = (folder : List ℕ) × (folder_in words ≡ Some folder)
-    × Tells files_before files_now (λ before now.
-    built (record { files = (begun before).present; folder = folder }) ≡ Ok site)
+    × Tells files_before files_now (λ before now. (now ≡ begun before)
+    × (built (record { files = (begun before).present; folder = folder }) ≡ Ok site))
 
 -- The line of a fault: its text, with place and reason, and a newline. Want of memory has none.
 abbrev pub fault_line : BuildFault → List ℕ
@@ -46,14 +48,18 @@ fault_line (fault.Tree wrong) = fault_text (fault.Tree wrong) ++ 10 ∷ []
 fault_line fault.ReadFault = fault_text fault.ReadFault ++ 10 ∷ []
 fault_line fault.NoMemory = []
 
--- What a run prints at its end, once its workers ran: the counts and, where one of them was deaf, the socket fault.
-abbrev pub closing_lines : ℕ → List (Entry Site BuildFault) → List ℕ
-closing_lines status added = counts_line (counts_of added) ++ (if status == 4 then socket_fault_line else [])
+-- The line of a status that has one of its own: a socket couldn't be had or a worker was deaf, or the history was full.
+abbrev pub status_line : ℕ → List ℕ
+status_line status = if status == 4 then socket_fault_line else if status == 7 then worn_line else []
 
--- What a run prints that serves a site: the listening line and then the closing ones. Where no kit could be had it is
--- the socket fault alone.
+-- What a run prints at its end, once its workers ran: the counts, and the line of its status.
+abbrev pub closing_lines : ℕ → List (Entry Site BuildFault) → List ℕ
+closing_lines status added = counts_line (counts_of added) ++ status_line status
+
+-- What a run prints that serves a site: the listening line and then the closing ones. Where there is no kit it is the
+-- line of its status alone.
 abbrev pub serving_lines : {H : Type 0} → Site → ℕ → List H → List (Entry Site BuildFault) → List ℕ
-serving_lines site status [] added = socket_fault_line
+serving_lines site status [] added = status_line status
 serving_lines site status (handed ∷ more) added = listening_line site.server site.at ++ closing_lines status added
 
 -- The lines of a run, by its course, its exit status, the kits that were handed out and the entries that it added.

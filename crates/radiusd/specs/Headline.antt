@@ -7,7 +7,8 @@ use Rattle.rad_outside.specs.Files.{FilesTold}
 use Rattle.rad_outside.specs.Telling.{Tells}
 use Rattle.rad_policy.specs.declared.arrival.Arrived.{Arrived}
 use Rattle.rad_core.specs.State.{opening}
-use Rattle.rad_core.specs.Entry.{Entry, worker_of}
+use Rattle.rad_core.specs.declared.entry.Entry.{Entry}
+use Rattle.rad_core.specs.Entry.{worker_of}
 use Rattle.rad_core.specs.Step.{IsLegal}
 use Rattle.rad_core.specs.Worker.{Placed, placed, of_worker, served, answered, IsClosed, HaveOutcomes}
 use Rattle.rad_core.specs.Completeness.{EachHasOneReply}
@@ -42,11 +43,12 @@ abbrev pub IsNamed : ℕ → Entry Site BuildFault → Type 0
 IsNamed kits entry = (worker_of entry ≡ 0) ⊎ (worker_of entry < kits)
 
 -- What came of asking a kit's wire is what came by its worker's entries, in order: each datagram received is one start,
--- from its source, with the listener, kind and server of the kit, and each time nothing came is one look. Each fresh
+-- from its source, with the kind and server of the listener that the kit was asked for and with its number, which is 0 as
+-- a site has one, and each time nothing came is one look. Each fresh
 -- start has its finish, with no other entry of the worker between.
 pub record ServedInOrder {W S K U G : Type 0} (tells : KitTells W K U) (mine : List (Placed Site BuildFault)) (worker : ℕ) (handed : Handed W S K U G) (kit : Kit W S K U G) : Type 0 where
   pub received : Tells (tells.wire handed.kit.wire) (tells.wire kit.wire) (Hears mine)
-  pub own : AllByRecursion (IsAt worker kit.listener handed.listen) (served mine)
+  pub own : AllByRecursion (IsAt worker 0 handed.listen) (served mine)
   pub closed : IsClosed mine
 
 -- The sends handed in on a kit's wire are the replies of these entries, in order, each to its arrival's source. Each
@@ -96,7 +98,7 @@ pub record Headline {W S K U G L : Type 0} (tells : KitTells W K U) (course : Co
   pub outcomes : EachKit (λ worker h kit. HasOutcomes tells (entries_of worker before added) h kit) 0 handed kits
   pub appends : EachKit (λ worker h kit. AppendsNothing h kit) 0 handed kits
   pub control : EachKit (λ worker h kit. HasLeft tells status (entries_of worker before added) h kit) 0 handed kits
-  -- no change of a session is logged yet
+  -- no change of a session is logged yet: the log and its path are as they were
   pub session_log : log_now ≡ log_before
   -- a front of the lines was printed, and all of them where no write failed and the status isn't 8
   pub printed_lines : Tells printed_before printed_now (Prints (lines_of course status handed added) (IsExcused sink_before sink_now status))

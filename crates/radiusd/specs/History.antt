@@ -1,40 +1,39 @@
 -- The history that the hub keeps, and the core's state behind it. This project's own.
-use Rattle.std.specs.Prelude.{◌≡◌, ◌⊎◌, ◌++◌, List, [], ◌∷◌, length, map, Ok, Some, Bool, true, IsTrue}
-use Rattle.std.specs.Arc.{arc_value}
+use Rattle.std.specs.Prelude.{ℕ, ◌≡◌, ◌⊎◌, ◌≤◌, ◌^◌, ◌++◌, List, [], ◌∷◌, length, Ok, Some, Bool, true, IsTrue}
+use Rattle.rad_turn.specs.declared.view.View.{View}
 use Rattle.rad_outside.specs.declared.listen.Listen.{Listen}
 use Rattle.rad_outside.specs.declared.listen.ListenKind.TheVariants.{Auth}
 use Rattle.rad_core.specs.declared.installed.Installed.{Installed}
 use Rattle.rad_core.specs.State.{ServerState, opening}
-use Rattle.rad_core.specs.Entry.{Entry, Start, Finish, Install, Look, Stop}
+use Rattle.rad_core.specs.declared.entry.Entry.{Entry}
+use Rattle.rad_core.specs.declared.entry.Entry.TheVariants.{Install}
 use Rattle.rad_core.specs.Step.{run, May, IsLegal}
 use Rattle.rad_site.specs.declared.fault.BuildFault.{BuildFault}
-use Rattle.radiusd.specs.declared.entry.StoredEntry.{StoredEntry}
-use Rattle.radiusd.specs.declared.entry.StoredEntry.TheVariants as stored
+use Rattle.radiusd.specs.declared.counts.Tally.{Tally}
+use Rattle.radiusd.specs.Counting.{tally_of}
 use Rattle.rad_site.specs.Site.{Site}
 use Rattle.rad_site.specs.Meaning.{site_meaning}
-
--- A stored entry, without where its generation lies.
-abbrev pub entry_seen : StoredEntry → Entry Site BuildFault
-entry_seen (stored.Start arrival answer) = Start arrival answer
-entry_seen (stored.Finish worker place ending) = Finish worker place ending
-entry_seen (stored.Install worker generation listeners answer) = Install worker (Ok (arc_value generation)) listeners.items answer
-entry_seen (stored.Look worker seen) = Look worker seen
-entry_seen (stored.Stop worker) = Stop worker
-
--- The history of stored entries.
-abbrev pub history_of : List StoredEntry → List (Entry Site BuildFault)
-history_of entries = map entry_seen entries
 
 -- The state after a history, from the opening state.
 abbrev pub state_after : List (Entry Site BuildFault) → ServerState Site
 state_after history = run site_meaning opening history
 
--- The history is legal, the state is the one after it, and nothing is in progress.
-pub record IsKept (history : List (Entry Site BuildFault)) (state : ServerState Site) : Type 0 where
+-- The history is legal, and nothing is in progress after it.
+pub record IsKept (history : List (Entry Site BuildFault)) : Type 0 where
   pub legal : IsLegal site_meaning opening history
-  pub state_is : state ≡ state_after history
-  pub idle : state.table ≡ []
-  pub count : state.entries ≡ length history
+  pub idle : (state_after history).table ≡ []
+
+-- A seat with this view is the first, and the only one that is out, and keeps the history.
+pub record IsAlone {O B : Type 0} (v : View (Entry Site BuildFault) O B) : Type 0 where
+  pub name : v.name ≡ 0
+  pub out : v.out ≡ []
+  pub kept : IsKept v.seen
+
+-- The history has so many entries, at most 2^62, and counts so much.
+pub record IsNumbered (history : List (Entry Site BuildFault)) (count : ℕ) (tally : Tally) : Type 0 where
+  pub count_is : count ≡ length history
+  pub short : length history ≤ 2 ^ 62
+  pub tally_is : tally ≡ tally_of history
 
 -- A generation was loaded for these listeners by worker 0: one entry stands at the history's end, and where the
 -- answer says so the generation is the present one.

@@ -7,7 +7,7 @@ use Rattle.rad_outside.specs.Telling.{Tells}
 use Rattle.rad_outside.specs.Wire.{WireTold}
 use Rattle.rad_core.specs.declared.seen.Seen.{Seen}
 use Rattle.rad_core.specs.State.{ServerState}
-use Rattle.rad_core.specs.Entry.{Look, Stop}
+use Rattle.rad_core.specs.declared.entry.Entry.TheVariants.{Look, Stop}
 use Rattle.rad_core.specs.Worker.{Placed, At, OnlyServes}
 use Rattle.rad_site.specs.declared.fault.BuildFault.{BuildFault}
 use Rattle.radiusd.specs.declared.left.Left.{Left}
@@ -62,7 +62,7 @@ Leaves tells (Some left.Stopped) before now mine =
     SeesStop mine × Tells (tells.wire before) (tells.wire now) (HearsLast heard.Quiet)
 Leaves tells (Some left.Deaf) before now mine =
     StopsLast mine × (100 ≤ tells.failures now) × Tells (tells.wire before) (tells.wire now) StaysOpen
-Leaves tells (Some left.NoMemory) before now mine = OnlyServes mine × Tells (tells.wire before) (tells.wire now) StaysOpen
+Leaves tells (Some left.Worn) before now mine = OnlyServes mine × Tells (tells.wire before) (tells.wire now) StaysOpen
 
 -- A worker that left as its wire ended, or as the server was stopped.
 abbrev pub IsAtEnd : Option Left → Type 0
@@ -70,4 +70,4 @@ IsAtEnd None = ⊥
 IsAtEnd (Some left.Ended) = Unit {0}
 IsAtEnd (Some left.Stopped) = Unit {0}
 IsAtEnd (Some left.Deaf) = ⊥
-IsAtEnd (Some left.NoMemory) = ⊥
+IsAtEnd (Some left.Worn) = ⊥

@@ -23,6 +23,10 @@ counts_line counts = codes "requests " ++ decimal counts.requests ++ codes " rep
 abbrev pub socket_fault_line : List ℕ
 socket_fault_line = codes "socket fault" ++ 10 ∷ []
 
+-- `worn N`: the history has no room, since N turns are all that there are.
+abbrev pub worn_line : List ℕ
+worn_line = codes "worn 4611686018427387904" ++ 10 ∷ []
+
 -- The usage line of words that are refused.
 abbrev pub usage_line : List ℕ
 usage_line = codes "usage: radiusd -s -d DIR" ++ 10 ∷ []

@@ -7,7 +7,7 @@ use Rattle.rad_outside.specs.declared.listen.Peer.{Peer}
 use Rattle.rad_outside.specs.Telling.{Tells}
 use Rattle.rad_outside.specs.Wire.{WireTold}
 use Rattle.rad_policy.specs.declared.arrival.Arrived.{Arrived}
-use Rattle.rad_core.specs.Entry.{Entry}
+use Rattle.rad_core.specs.declared.entry.Entry.{Entry}
 use Rattle.rad_core.specs.Step.{IsLegal}
 use Rattle.rad_core.specs.Worker.{Answer, placed, IsOwn}
 use Rattle.rad_site.specs.declared.fault.BuildFault.{BuildFault}
@@ -18,6 +18,7 @@ use Rattle.radiusd.specs.declared.serving.Passed.TheVariants as passed
 use Rattle.rad_site.specs.Site.{Site}
 use Rattle.rad_site.specs.Meaning.{site_meaning}
 use Rattle.radiusd.specs.History.{state_after}
+use Rattle.radiusd.specs.Statuses.{IsFull}
 use Rattle.radiusd.specs.Turn.{AddsTurn}
 use Rattle.radiusd.specs.Told.{KitTells, Told, Sends, GrowsBy}
 use Rattle.radiusd.specs.Leaving.{Leaves}
@@ -74,3 +75,4 @@ pub record GoesOn {W S K U G : Type 0} (tells : KitTells W K U) (worker : ℕ) (
   pub told : Told tells worker listen old new (placed site_meaning (state_after before) added)
   pub leaves : Leaves tells left old.wire new.wire (placed site_meaning (state_after before) added)
   pub stop : left ≡ Some leaving.Stopped → IsTrue (state_after after).is_stopped
+  pub worn : left ≡ Some leaving.Worn → IsFull after

@@ -1,14 +1,16 @@
 -- What a run's exit status says of its words and of its site. This project's own, after FreeRADIUS' radiusd(8).
-use Rattle.std.specs.Prelude.{ℕ, ◌≡◌, ◌⊎◌, List, Option, Some, Ok, Err}
+use Rattle.std.specs.Prelude.{ℕ, ◌≡◌, ◌⊎◌, ◌≤◌, ◌+◌, ◌^◌, length, List, Option, Some, Ok, Err}
 use Rattle.rad_outside.specs.declared.crew.Kit.{Kit}
 use Rattle.rad_outside.specs.Telling.{Tells, Rose}
 use Rattle.rad_outside.specs.Files.{FilesTold, begun}
+use Rattle.rad_core.specs.declared.entry.Entry.{Entry}
 use Rattle.rad_site.specs.declared.fault.BuildFault.{BuildFault}
 use Rattle.rad_site.specs.declared.fault.BuildFault.TheVariants as fault
 use Rattle.radiusd.specs.declared.status.Status.{Status}
 use Rattle.radiusd.specs.declared.status.Status.TheVariants as status
 use Rattle.rad_site.specs.Built.{built}
 use Rattle.radiusd.specs.Course.{fault_line, HasDeafWire}
+use Rattle.radiusd.specs.History.{TriesInstall}
 use Rattle.radiusd.specs.Printing.{Prints}
 use Rattle.rad_site.specs.Site.{Site}
 use Rattle.radiusd.specs.Words.{folder_in}
@@ -21,6 +23,7 @@ number_of status.Configuration = 2
 number_of status.ReadFault = 3
 number_of status.SocketFault = 4
 number_of status.PrintFault = 6
+number_of status.Worn = 7
 number_of status.NoMemory = 8
 
 -- A status that comes once the site is built.
@@ -31,6 +34,7 @@ IsServing status.Configuration = ⊥
 IsServing status.ReadFault = ⊥
 IsServing status.SocketFault = Unit {0}
 IsServing status.PrintFault = Unit {0}
+IsServing status.Worn = Unit {0}
 IsServing status.NoMemory = Unit {0}
 
 -- The status of a fault: one of the configuration, a read fault or want of memory.
@@ -69,10 +73,21 @@ FaultGives words Ends files_before files_now = Tells files_before files_now (λ 
 
 -- The exit statuses that there are.
 abbrev pub IsListed : ℕ → Type 0
-IsListed number = (number ≡ 0) ⊎ ((number ≡ 1) ⊎ ((number ≡ 2) ⊎ ((number ≡ 3) ⊎ ((number ≡ 4) ⊎ ((number ≡ 6) ⊎ (number ≡ 8))))))
+IsListed number = (number ≡ 0) ⊎ ((number ≡ 1) ⊎ ((number ≡ 2) ⊎ ((number ≡ 3) ⊎ ((number ≡ 4) ⊎ ((number ≡ 6) ⊎ ((number ≡ 7) ⊎ (number ≡ 8)))))))
 
--- What a run's devices have had by its end: no count of faults rose, and no kit's wire failed 100 times in a row.
-pub record NothingFailed {W S K U G : Type 0} (failures : W → ℕ) (files_before files_now crew_before crew_now sink_before sink_now : ℕ) (kits : List (Kit W S K U G)) : Type 0 where
+-- The history has no room for two more entries: there are 2^62 at most.
+abbrev pub IsFull : List (Entry Site BuildFault) → Type 0
+IsFull history = 2 ^ 62 ≤ length history + 1
+
+-- The generation isn't installed, for a status that says why: there was no memory, or the history is full.
+pub record IsNotInstalled (before after : List (Entry Site BuildFault)) (generation : Site) (ended : Status) : Type 0 where
+  pub tries : TriesInstall before after generation
+  pub why : (ended ≡ status.NoMemory) ⊎ ((ended ≡ status.Worn) × IsFull after)
+
+-- What a run's devices have had by its end: no count of faults rose, and no kit's wire failed 100 times in a row. The
+-- history isn't full.
+pub record NothingFailed {W S K U G : Type 0} (failures : W → ℕ) (files_before files_now crew_before crew_now sink_before sink_now : ℕ) (history : List (Entry Site BuildFault)) (kits : List (Kit W S K U G)) : Type 0 where
+  pub turns : ¬ IsFull history
   pub files : ¬ Rose files_before files_now
   pub crew : ¬ Rose crew_before crew_now
   pub sink : ¬ Rose sink_before sink_now

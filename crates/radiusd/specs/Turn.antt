@@ -1,14 +1,17 @@
 -- What one datagram's whole way adds to the history, and the reply that it leaves in a buffer. This project's own.
-use Rattle.std.specs.Prelude.{ℕ, ◌≡◌, ◌≤◌, ◌++◌, List, [], ◌∷◌, take, Option, Some, None}
+use Rattle.std.specs.Prelude.{ℕ, ◌≡◌, ◌≤◌, ◌+◌, ◌++◌, List, [], ◌∷◌, length, take, Option, Some, None}
 use Rattle.std.specs.Arc.{arc_value}
+use Rattle.std.specs.Option.{is_some}
 use Rattle.rad_policy.specs.declared.arrival.Arrived.{Arrived}
 use Rattle.rad_policy.specs.declared.outcome.Outcome.{Outcome}
 use Rattle.rad_policy.specs.declared.outcome.Outcome.TheVariants as outcome
 use Rattle.rad_core.specs.State.{ServerState}
-use Rattle.rad_core.specs.Entry.{Entry}
+use Rattle.rad_core.specs.declared.entry.Entry.{Entry}
 use Rattle.rad_core.specs.Worker.{Answer, Passes}
 use Rattle.rad_site.specs.declared.fault.BuildFault.{BuildFault}
 use Rattle.radiusd.specs.declared.turn.Reply.{Reply}
+use Rattle.radiusd.specs.declared.turn.Taken.{Taken}
+use Rattle.radiusd.specs.Counting.{tally_of, with_request}
 use Rattle.rad_site.specs.Site.{Site}
 use Rattle.rad_site.specs.Meaning.{site_meaning}
 
@@ -28,6 +31,12 @@ answers_of arrival (Some reply) buffer = record { to = arrival.from; octets = ta
 abbrev pub FitsAnswer : Option Reply → Type 0
 FitsAnswer None = Unit {0}
 FitsAnswer (Some reply) = reply.length ≤ 4096
+
+-- What one arrival's way has added is so many entries, one or two, and counts as one request and its reply.
+pub record CountsTurn (before after : List (Entry Site BuildFault)) (taken : Taken) : Type 0 where
+  pub more : length after ≡ length before + taken.entries
+  pub few : taken.entries ≤ 2
+  pub tally : tally_of after ≡ with_request (is_some taken.reply) (tally_of before)
 
 -- One arrival's way has added entries to the history: they are legal after the state before, and lead to the state
 -- after, with these replies.

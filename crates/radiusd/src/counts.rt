@@ -1,12 +1,8 @@
-ghost use Rattle.std.specs.Prelude.{◌≡◌};
-ghost use Rattle.std.specs.List.{count_by};
-ghost use Rattle.radiusd.specs.Counting.{counts_of, is_counted, is_request, is_reply, is_install, is_refusal, sends, leaves_present};
-ghost use Rattle.radiusd.specs.History.{entry_seen, history_of};
+ghost use Rattle.std.specs.Prelude.{◌≡◌, ◌<◌, ◌^◌, []};
+ghost use Rattle.radiusd.specs.Counting.{tally_of, with_request, with_load, counts_between};
 ghost use Rattle.radiusd.specs.Installing.{is_present_by};
 
-use crate::entry::StoredEntry;
 use rad_core::Installed;
-use rad_policy::Ending;
 use rad_site::BuildFault;
 
 /// What a run counts: the datagrams that it served, the replies that they got, the generations that it loaded beside
@@ -19,99 +15,71 @@ pub(crate) struct Counts {
     pub(crate) refused: u64,
 }
 
-/// What an entry can count as.
+/// What a whole history counts: requests, replies, loads that were made the present generation, and loads that were
+/// refused.
 #[derive(Clone, Copy, Debug, PartialEq, Eq)]
-pub(crate) enum Counted {
-    Request,
-    Reply,
-    /// A load that was made the present generation.
-    Install,
-    /// A load that left the present generation.
-    Refusal,
+pub(crate) struct Tally {
+    pub(crate) requests: u64,
+    pub(crate) replies: u64,
+    pub(crate) installs: u64,
+    pub(crate) refused: u64,
 }
 
-/// The counts of these entries, of which the first is the install at the start.
-pub(crate) fn counts_of(entries: &[StoredEntry]) -> Counts
-    ensures { result ≡ counts_of (history_of entries.now) }
-{
-    let (_, behind_first) = entries.split_at(entries.len().min(1));
-    Counts {
-        requests: count(Counted::Request, entries),
-        replies: count(Counted::Reply, entries),
-        reloads: count(Counted::Install, behind_first),
-        refused: count(Counted::Refusal, entries),
-    }
-}
-
-/// How many of the entries count as this.
-fn count(kind: Counted, entries: &[StoredEntry]) -> u64
-    ensures { result ≡ count_by (is_counted kind) (history_of entries.now) }
-{
-    let mut found = 0;
-    for entry in entries {
-        if is_counted(kind, entry) {
-            found += 1;
+impl Tally {
+    /// The tally of a history without an entry.
+    pub(crate) fn none() -> Tally
+        ensures { result ≡ tally_of [] }
+    {
+        Tally {
+            requests: 0,
+            replies: 0,
+            installs: 0,
+            refused: 0,
         }
     }
-    found
-}
 
-/// Whether an entry counts as this.
-#[tactic(auto, unfolding(crate::specs::Counting::is_counted))]
-fn is_counted(kind: Counted, entry: &StoredEntry) -> bool
-    ensures { result ≡ is_counted kind (entry_seen entry.now) }
-{
-    match kind {
-        Counted::Request => is_request(entry),
-        Counted::Reply => is_reply(entry),
-        Counted::Install => is_install(entry),
-        Counted::Refusal => is_refusal(entry),
+    /// With one request more, and its reply if it got one.
+    pub(crate) fn with_request(self, is_replied: bool) -> Tally
+        requires requests { self.requests < 2 ^ 62 }
+        requires replies { self.replies < 2 ^ 62 }
+        ensures { result ≡ with_request is_replied self }
+    {
+        Tally {
+            requests: self.requests + 1,
+            replies: self.replies + u64::from(is_replied),
+            ..self
+        }
+    }
+
+    /// With one load more, which was made the present generation or refused.
+    pub(crate) fn with_load(self, is_present: bool) -> Tally
+        requires installs { self.installs < 2 ^ 62 }
+        requires refused { self.refused < 2 ^ 62 }
+        ensures { result ≡ with_load is_present self }
+    {
+        if is_present {
+            Tally {
+                installs: self.installs + 1,
+                ..self
+            }
+        } else {
+            Tally {
+                refused: self.refused + 1,
+                ..self
+            }
+        }
     }
 }
 
-fn is_request(entry: &StoredEntry) -> bool
-    ensures { result ≡ is_request (entry_seen entry.now) }
+/// The counts of a run, from the tallies of the history before it, behind its first load and by now.
+pub(crate) fn counts_between(before: Tally, loaded: Tally, now: Tally) -> Counts
+    ensures { result ≡ counts_between before loaded now }
 {
-    match entry {
-        StoredEntry::Start(_, _) => true,
-        StoredEntry::Finish(_, _, _) => false,
-        StoredEntry::Install(_, _, _, _) => false,
-        StoredEntry::Look(_, _) => false,
-        StoredEntry::Stop(_) => false,
-    }
-}
-
-fn is_reply(entry: &StoredEntry) -> bool
-    ensures { result ≡ is_reply (entry_seen entry.now) }
-{
-    match entry {
-        StoredEntry::Start(_, _) => false,
-        StoredEntry::Finish(_, _, ending) => sends(ending),
-        StoredEntry::Install(_, _, _, _) => false,
-        StoredEntry::Look(_, _) => false,
-        StoredEntry::Stop(_) => false,
-    }
-}
-
-fn sends(ending: &Ending) -> bool
-    ensures { result ≡ sends ending.now }
-{
-    match ending {
-        Ending::Sent(_) => true,
-        Ending::Withheld => false,
-        Ending::OutOfMemory => false,
-    }
-}
-
-fn is_install(entry: &StoredEntry) -> bool
-    ensures { result ≡ is_install (entry_seen entry.now) }
-{
-    match entry {
-        StoredEntry::Start(_, _) => false,
-        StoredEntry::Finish(_, _, _) => false,
-        StoredEntry::Install(_, _, _, answer) => is_present(answer),
-        StoredEntry::Look(_, _) => false,
-        StoredEntry::Stop(_) => false,
+    Counts {
+        requests: now.requests.saturating_sub(before.requests),
+        replies: now.replies.saturating_sub(before.replies),
+        reloads: now.installs.saturating_sub(loaded.installs),
+        refused: now.refused.saturating_sub(before.refused),
     }
 }
 
@@ -123,28 +91,5 @@ pub(crate) fn is_present(answer: &Installed<BuildFault>) -> bool
         Installed::Generation(_) => true,
         Installed::Refused(_) => false,
         Installed::ListenerGone(_) => false,
-    }
-}
-
-fn is_refusal(entry: &StoredEntry) -> bool
-    ensures { result ≡ is_refusal (entry_seen entry.now) }
-{
-    match entry {
-        StoredEntry::Start(_, _) => false,
-        StoredEntry::Finish(_, _, _) => false,
-        StoredEntry::Install(_, _, _, answer) => leaves_present(answer),
-        StoredEntry::Look(_, _) => false,
-        StoredEntry::Stop(_) => false,
-    }
-}
-
-/// Whether a load has left the present generation.
-fn leaves_present(answer: &Installed<BuildFault>) -> bool
-    ensures { result ≡ leaves_present answer.now }
-{
-    match answer {
-        Installed::Generation(_) => false,
-        Installed::Refused(_) => true,
-        Installed::ListenerGone(_) => true,
     }
 }

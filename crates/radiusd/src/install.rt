@@ -1,12 +1,14 @@
-ghost use Rattle.std.specs.Prelude.{◌≡◌, ◌∷◌, [], IfOk, OnErr};
+ghost use Rattle.std.specs.Prelude.{◌≡◌, ◌∷◌, [], IfOk, IfErr};
 ghost use Rattle.std.specs.Arc.{arc_value};
-ghost use Rattle.radiusd.specs.History.{listener_of, TriesInstall, IsInstalled};
+ghost use Rattle.radiusd.specs.History.{listener_of, IsInstalled};
+ghost use Rattle.radiusd.specs.Statuses.{IsNotInstalled};
 
 use crate::hub::Hub;
+use crate::status::Status;
 use rad_outside::{Listen, ListenKind, NoMemory, Octets, Shelf};
 use rad_site::Generation;
 use std::alloc::Global;
-use std::sync::Arc;
+use std::sync::{Arc, Wait};
 
 /// The listener of a generation.
 fn listener_of(alloc: Global, generation: &Generation) -> Result<Listen, NoMemory>
@@ -28,37 +30,47 @@ fn listeners_of(alloc: Global, generation: &Generation) -> Result<Vec<Listen>, N
     Ok(listeners)
 }
 
-/// Installs a shared generation for its own listener.
-fn install_shared<L: Shelf>(
+/// Installs a shared generation for its own listener. It isn't tried where the history has no room for two entries.
+fn install_shared<R: Wait, L: Shelf>(
+    rt: &R,
     alloc: Global,
     hub: &mut Hub<L>,
     generation: Arc<Generation>,
-) -> Result<Listen, NoMemory>
+) -> Result<Listen, Status>
     ensures installed { IfOk result (IsInstalled hub.old.history hub.new.history (arc_value generation)) }
-    ensures err { OnErr result (TriesInstall hub.old.history hub.new.history (arc_value generation)) }
-    ensures log { hub.new.log ≡ hub.old.log }
+    ensures err { IfErr result (IsNotInstalled hub.old.history hub.new.history (arc_value generation)) }
+    ensures origin { hub.new.origin ≡ hub.old.origin }
 {
-    let listen = listener_of(alloc, &generation)?;
-    let listeners = listeners_of(alloc, &generation)?;
-    hub.reserve()?;
-    if hub.install(generation, listeners)? {
+    let Ok(listen) = listener_of(alloc, &generation) else {
+        return Err(Status::NoMemory);
+    };
+    let Ok(listeners) = listeners_of(alloc, &generation) else {
+        return Err(Status::NoMemory);
+    };
+    if !hub.has_turns() {
+        return Err(Status::Worn);
+    }
+    if hub.install(rt, generation, listeners.as_slice()) {
         Ok(listen)
     } else {
-        Err(NoMemory)
+        Err(Status::NoMemory)
     }
 }
 
 /// Installs a generation for its own listener, and answers that listener. An install that had no memory is an entry
 /// of the history, too.
-pub(crate) fn install<L: Shelf>(
+pub(crate) fn install<R: Wait, L: Shelf>(
+    rt: &R,
     alloc: Global,
     hub: &mut Hub<L>,
     generation: Generation,
-) -> Result<Listen, NoMemory>
+) -> Result<Listen, Status>
     ensures installed { IfOk result (IsInstalled hub.old.history hub.new.history generation) }
-    ensures err { OnErr result (TriesInstall hub.old.history hub.new.history generation) }
-    ensures log { hub.new.log ≡ hub.old.log }
+    ensures err { IfErr result (IsNotInstalled hub.old.history hub.new.history generation) }
+    ensures origin { hub.new.origin ≡ hub.old.origin }
 {
-    let generation = Arc::new(alloc, generation)?;
-    install_shared(alloc, hub, generation)
+    match Arc::new(alloc, generation) {
+        Ok(generation) => install_shared(rt, alloc, hub, generation),
+        Err(_) => Err(Status::NoMemory),
+    }
 }

@@ -7,6 +7,6 @@ pub(crate) enum Left {
     Ended,
     /// Its wire failed 100 times in a row, and the server was stopped.
     Deaf,
-    /// There was no memory for what the next ask of the wire may add to the history.
-    NoMemory,
+    /// The history hadn't room for two more entries, which the next ask of the wire may add.
+    Worn,
 }

@@ -5,13 +5,11 @@
 #![tactic(auto)]
 
 mod counts;
-mod entry;
 mod hub;
 mod install;
 mod left;
 mod lines;
 mod printing;
-mod room;
 mod serving;
 mod site;
 mod status;

@@ -1,15 +1,16 @@
-ghost use Rattle.std.specs.Prelude.{◌≡◌, ◌≤◌, ◌<◌, ◌^◌, length, IsSome, Some};
+ghost use Rattle.std.specs.Prelude.{◌≡◌, ◌≤◌, ◌<◌, ◌+◌, ◌^◌, length, IsSome, Some};
 ghost use Rattle.rad_outside.specs.declared.listen.ListenKind.TheVariants.{Auth};
 ghost use Rattle.radiusd.specs.History.{state_after};
 ghost use Rattle.radiusd.specs.Serving.{Serves, GoesOn, left_of, IsCounted};
 
 use crate::hub::Hub;
 use crate::left::Left;
-use crate::room::Room;
 use rad_outside::{Clock, Gate, Got, Kit, Listen, Luck, Peer, Point, Shelf, Wire};
 use rad_policy::Arrival;
-use std::alloc::Global;
 use std::sync::Wait;
+
+/// The worker that serves.
+pub(crate) const WORKER: u32 = 0;
 
 /// After so many failures of its wire in a row a worker is deaf.
 const DEAF: u64 = 100;
@@ -24,27 +25,23 @@ pub(crate) enum Passed {
 
 /// Serves one datagram that the kit's wire gave: its arrival is taken through the core, and its reply, if there is
 /// one, is handed to the wire once.
-fn serve_datagram<L: Shelf, W: Wire, S: Shelf, K: Clock, U: Luck, G: Gate>(
+fn serve_datagram<R: Wait, L: Shelf, W: Wire, S: Shelf, K: Clock, U: Luck, G: Gate>(
+    rt: &R,
     hub: &mut Hub<L>,
-    worker: u32,
     kit: &mut Kit<W, S, K, U, G>,
     listen: &Listen,
-    room: Room,
     from: Peer,
     octets: &[u8],
 )
     requires installed { IsSome (state_after hub.old.history).present }
-    requires few { length hub.old.history < 2 ^ 62 }
-    requires room { 2 ≤ hub.old.room }
+    requires few { length hub.old.history + 2 ≤ 2 ^ 62 }
     requires auth { listen.now.kind ≡ Auth }
-    requires short { length octets.now ≤ 4096 }
-    requires named { room.server ≡ listen.now.server }
     ensures serves { Serves (record { wire = W.told; clock = K.told; luck = U.told; failures = W.failures_in_a_row; has_ended = W.has_ended })
-        worker listen.now hub.old.history hub.new.history kit.old kit.new from octets.now }
-    ensures log { hub.new.log ≡ hub.old.log }
+        0 listen.now hub.old.history hub.new.history kit.old kit.new from octets.now }
+    ensures origin { hub.new.origin ≡ hub.old.origin }
 {
     let arrival = Arrival {
-        worker,
+        worker: WORKER,
         listener: kit.listener,
         kind: listen.kind,
         server: listen.server.as_slice(),
@@ -55,9 +52,9 @@ fn serve_datagram<L: Shelf, W: Wire, S: Shelf, K: Clock, U: Luck, G: Gate>(
     let luck = kit.luck.word();
     let mut buffer = [0; 4096];
     let reply = hub.take(
+        rt,
         &arrival,
         luck,
-        room,
         &mut kit.shelf,
         &mut kit.gate,
         &mut buffer,
@@ -69,13 +66,12 @@ fn serve_datagram<L: Shelf, W: Wire, S: Shelf, K: Clock, U: Luck, G: Gate>(
     }
 }
 
-/// Asks the kit's wire once and serves what it gives. Room for what that adds is made before the wire is asked. Where
-/// nothing came the worker looks, and leaves if a stop came; where the wire failed 100 times in a row it stops the
-/// server and leaves.
-fn pass<L: Shelf, W: Wire, S: Shelf, K: Clock, U: Luck, G: Gate>(
-    alloc: Global,
+/// Asks the kit's wire once and serves what it gives. The wire isn't asked where what it gives may find no room in the
+/// history. Where nothing came the worker looks, and leaves if a stop came; where the wire failed 100 times in a row it
+/// stops the server and leaves.
+fn pass<R: Wait, L: Shelf, W: Wire, S: Shelf, K: Clock, U: Luck, G: Gate>(
+    rt: &R,
     hub: &mut Hub<L>,
-    worker: u32,
     kit: &mut Kit<W, S, K, U, G>,
     listen: &Listen,
     failures: u64,
@@ -85,25 +81,22 @@ fn pass<L: Shelf, W: Wire, S: Shelf, K: Clock, U: Luck, G: Gate>(
     requires counted { failures ≡ W.failures_in_a_row kit.old.wire }
     requires few { failures < 100 }
     ensures goes_on { GoesOn (record { wire = W.told; clock = K.told; luck = U.told; failures = W.failures_in_a_row; has_ended = W.has_ended })
-        worker listen.now (left_of result) hub.old.history hub.new.history kit.old kit.new }
+        0 listen.now (left_of result) hub.old.history hub.new.history kit.old kit.new }
     ensures counted { IsCounted result (W.failures_in_a_row kit.new.wire) }
-    ensures log { hub.new.log ≡ hub.old.log }
+    ensures origin { hub.new.origin ≡ hub.old.origin }
 {
-    if hub.reserve().is_err() {
-        return Passed::Leaving(Left::NoMemory);
+    if !hub.has_turns() {
+        return Passed::Leaving(Left::Worn);
     }
-    let Ok(room) = Room::take(alloc, listen.server.as_slice()) else {
-        return Passed::Leaving(Left::NoMemory);
-    };
     let mut buffer = [0; 4096];
     match kit.wire.recv(&mut buffer) {
         Got::Datagram(count, from) => {
             let (octets, _) = buffer.split_at(count);
-            serve_datagram(hub, worker, kit, listen, room, from, octets);
+            serve_datagram(rt, hub, kit, listen, from, octets);
             Passed::On(0)
         }
         Got::Quiet => {
-            let seen = hub.look(worker);
+            let seen = hub.look(rt);
             if seen.stopped {
                 Passed::Leaving(Left::Stopped)
             } else {
@@ -114,20 +107,18 @@ fn pass<L: Shelf, W: Wire, S: Shelf, K: Clock, U: Luck, G: Gate>(
             if failures + 1 < DEAF {
                 return Passed::On(failures + 1);
             }
-            hub.stop(worker);
+            hub.stop(rt);
             Passed::Leaving(Left::Deaf)
         }
         Got::Ended => Passed::Leaving(Left::Ended),
     }
 }
 
-/// Serves a kit until its worker leaves: its wire has ended, a stop came, the wire failed 100 times in a row, or memory
-/// ran out.
+/// Serves a kit until its worker leaves: its wire has ended, a stop came, the wire failed 100 times in a row, or the
+/// history is full.
 pub(crate) fn serve<R: Wait, L: Shelf, W: Wire, S: Shelf, K: Clock, U: Luck, G: Gate>(
     rt: &R,
-    alloc: Global,
     hub: &mut Hub<L>,
-    worker: u32,
     kit: &mut Kit<W, S, K, U, G>,
     listen: &Listen,
 ) -> Left
@@ -135,12 +126,12 @@ pub(crate) fn serve<R: Wait, L: Shelf, W: Wire, S: Shelf, K: Clock, U: Luck, G: 
     requires auth { listen.now.kind ≡ Auth }
     requires fresh { W.failures_in_a_row kit.old.wire ≡ 0 }
     ensures goes_on { GoesOn (record { wire = W.told; clock = K.told; luck = U.told; failures = W.failures_in_a_row; has_ended = W.has_ended })
-        worker listen.now (Some result) hub.old.history hub.new.history kit.old kit.new }
-    ensures log { hub.new.log ≡ hub.old.log }
+        0 listen.now (Some result) hub.old.history hub.new.history kit.old kit.new }
+    ensures origin { hub.new.origin ≡ hub.old.origin }
 {
     let mut failures = 0;
     for _ in rt.forever() {
-        match pass(alloc, hub, worker, kit, listen, failures) {
+        match pass(rt, hub, kit, listen, failures) {
             Passed::On(count) => failures = count,
             Passed::Leaving(left) => return left,
         }

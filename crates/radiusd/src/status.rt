@@ -16,6 +16,8 @@ pub(crate) enum Status {
     SocketFault,
     /// A line couldn't be printed.
     PrintFault,
+    /// The history is full.
+    Worn,
     NoMemory,
 }
 
@@ -31,6 +33,7 @@ impl Status {
             Status::ReadFault => 3,
             Status::SocketFault => 4,
             Status::PrintFault => 6,
+            Status::Worn => 7,
             Status::NoMemory => 8,
         }
     }

@@ -5,7 +5,7 @@ ghost use Rattle.radiusd.specs.Course.{HasDeafWire, fault_line};
 ghost use Rattle.radiusd.specs.Headline.{Headline, RunsAs};
 ghost use Rattle.radiusd.specs.History.{state_after};
 ghost use Rattle.radiusd.specs.Printing.{Prints};
-ghost use Rattle.radiusd.specs.Statuses.{number_of, status_of, IsRefused, FaultGives, SiteGives, NothingFailed, IsListed};
+ghost use Rattle.radiusd.specs.Statuses.{number_of, status_of, IsFull, IsRefused, FaultGives, SiteGives, NothingFailed, IsListed};
 ghost use Rattle.radiusd.specs.Words.{folder_in};
 
 use crate::hub::Hub;
@@ -85,7 +85,7 @@ where
     requires { kits.old.items ≡ [] }
     ensures headline { RunsAs (map string_bytes words.now) (F.told files.old) (F.told files.new) (λ course.
         Headline (record { wire = W.told; clock = K.told; luck = U.told; failures = W.failures_in_a_row; has_ended = W.has_ended })
-        course (number_of result) (C.told crew.old) (C.told crew.new) hub.old.log hub.new.log
+        course (number_of result) (C.told crew.old) (C.told crew.new) hub.old.origin hub.new.origin
         (O.told out.old) (O.told out.new) (O.faults out.old) (O.faults out.new) hub.old.history hub.new.history kits.new.items) }
     ensures words { (result ≡ Status.Words) ↔ (folder_in (map string_bytes words.now) ≡ None) }
     ensures refused { result ≡ Status.Configuration → IsRefused (map string_bytes words.now)
@@ -99,12 +99,13 @@ where
     ensures socket { result ≡ Status.SocketFault → Rose (C.faults crew.old) (C.faults crew.new)
         ⊎ HasDeafWire W.failures_in_a_row kits.new.items }
     ensures print { result ≡ Status.PrintFault → Rose (O.faults out.old) (O.faults out.new) }
+    ensures worn { result ≡ Status.Worn → IsFull hub.new.history }
     ensures served { SiteGives (map string_bytes words.now)
         (NothingFailed W.failures_in_a_row (F.faults files.old) (F.faults files.new) (C.faults crew.old) (C.faults crew.new)
-        (O.faults out.old) (O.faults out.new) kits.new.items)
+        (O.faults out.old) (O.faults out.new) hub.new.history kits.new.items)
         ((result ≡ Status.Done) ⊎ (result ≡ Status.NoMemory)) (F.told files.old) (F.told files.new) }
 {
-    let _ = hub.length();
+    let _ = hub.tally();
     let Some(folder) = folder_of(words) else {
         let _ = say(out, USAGE);
         return Status::Words;
@@ -117,13 +118,13 @@ where
 
 /// The server. With the words `radiusd -s -d DIR` it serves the site in that folder on one thread until its worker
 /// leaves, and answers the exit status of the program: 0 the listener's wire ended or a stop came, 1 other words, 2 a
-/// fault of the configuration, 3 a read fault, 4 a socket fault, 6 a print fault, 8 want of memory.
+/// fault of the configuration, 3 a read fault, 4 a socket fault, 6 a print fault, 7 a full history, 8 want of memory.
 ///
 /// The headline holds of every run, whatever its status: see `specs/Headline.antt`. What each status says, and when it
 /// comes, is in `specs/Statuses.antt`: 1 exactly where the words are others; 2 only where the site is built to a fault
 /// of its own text, whose line `FILE[LINE]: REASON` is printed; 3, 4 and 6 only where the files, the crew or a wire, and
-/// the sink failed; 0 only where a stop stands or the wires ended. A site that has a fault is answered 2, 3 or 8, and
-/// one without a fault 0 or 8 where nothing failed.
+/// the sink failed; 7 only where the history has no room for two more entries; 0 only where a stop stands or the wires
+/// ended. A site that has a fault is answered 2, 3 or 8, and one without a fault 0 or 8 where nothing failed.
 pub fn radiusd<R, F, W, S, K, U, G, C, L, O>(
     rt: &R,
     alloc: Global,
@@ -148,7 +149,7 @@ where
     requires { kits.old.items ≡ [] }
     ensures headline { RunsAs (map string_bytes words.now) (F.told files.old) (F.told files.new) (λ course.
         Headline (record { wire = W.told; clock = K.told; luck = U.told; failures = W.failures_in_a_row; has_ended = W.has_ended })
-        course (result) (C.told crew.old) (C.told crew.new) hub.old.log hub.new.log
+        course (result) (C.told crew.old) (C.told crew.new) hub.old.origin hub.new.origin
         (O.told out.old) (O.told out.new) (O.faults out.old) (O.faults out.new) hub.old.history hub.new.history kits.new.items) }
     ensures words { (result ≡ 1) ↔ (folder_in (map string_bytes words.now) ≡ None) }
     ensures refused { result ≡ 2 → IsRefused (map string_bytes words.now)
@@ -162,9 +163,10 @@ where
     ensures socket { result ≡ 4 → Rose (C.faults crew.old) (C.faults crew.new)
         ⊎ HasDeafWire W.failures_in_a_row kits.new.items }
     ensures print { result ≡ 6 → Rose (O.faults out.old) (O.faults out.new) }
+    ensures worn { result ≡ 7 → IsFull hub.new.history }
     ensures served { SiteGives (map string_bytes words.now)
         (NothingFailed W.failures_in_a_row (F.faults files.old) (F.faults files.new) (C.faults crew.old) (C.faults crew.new)
-        (O.faults out.old) (O.faults out.new) kits.new.items)
+        (O.faults out.old) (O.faults out.new) hub.new.history kits.new.items)
         ((result ≡ 0) ⊎ (result ≡ 8)) (F.told files.old) (F.told files.new) }
     ensures listed { IsListed result }
 {

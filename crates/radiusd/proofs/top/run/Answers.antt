@@ -23,9 +23,9 @@ returns-in_default-clause-headline g c =
     let before = g.O.Sink.faults c.args.out.now in
     let now = g.O.Sink.faults c.say.new.out in (
       Misworded,
-      sym c.in_default.ensures,
-      subst (λ (kits : List (Kit g.row.W.Denot g.row.S.Denot g.row.K.Denot g.row.U.Denot g.row.G.Denot)). Headline tells Misworded 1 crew crew c.args.hub.now.log c.args.hub.now.log out printed before now history history kits) (sym c.requires)
-          (headline_idle tells 1 crew crew c.args.hub.now.log c.args.hub.now.log out printed before now Misworded history c.length.ensures.legal (refl, refl) (Tells-same (GrowsBy []) crew (λ x. sym (append-nil x))) refl
+      (sym c.in_default.ensures, Tells-same (λ before now. now ≡ before) (g.F.Files.told c.args.files.now) (λ x. refl)),
+      subst (λ (kits : List (Kit g.row.W.Denot g.row.S.Denot g.row.K.Denot g.row.U.Denot g.row.G.Denot)). Headline tells Misworded 1 crew crew c.args.hub.now.origin c.args.hub.now.origin out printed before now history history kits) (sym c.requires)
+          (headline_idle tells 1 crew crew c.args.hub.now.origin c.args.hub.now.origin out printed before now Misworded history c.tally.ensures.legal (refl, refl) (Tells-same (GrowsBy []) crew (λ x. sym (append-nil x))) refl
           (Prints-weaker out printed usage_line (Rose before now) (IsExcused before now 1) (λ rose. inl rose) c.say.ensures.printed)),
     )
 
@@ -43,8 +43,8 @@ returns-in-Err-clause-headline g c =
     let course : Course = Unbuilt wrong in (
       course,
       unbuilt_course (map string_bytes c.args.words.now) c.in-Some.folder.now wrong (g.F.Files.told c.args.files.now) (g.F.Files.told c.build.new.files) (sym c.in-Some.ensures) c.in-Err.ensures.told,
-      subst (λ (kits : List (Kit g.row.W.Denot g.row.S.Denot g.row.K.Denot g.row.U.Denot g.row.G.Denot)). Headline tells course (number_of ended) crew crew c.args.hub.now.log c.args.hub.now.log out printed before now history history kits) (sym c.requires)
-          (headline_idle tells (number_of ended) crew crew c.args.hub.now.log c.args.hub.now.log out printed before now course history c.length.ensures.legal (refl, refl) (Tells-same (GrowsBy []) crew (λ x. sym (append-nil x))) refl
+      subst (λ (kits : List (Kit g.row.W.Denot g.row.S.Denot g.row.K.Denot g.row.U.Denot g.row.G.Denot)). Headline tells course (number_of ended) crew crew c.args.hub.now.origin c.args.hub.now.origin out printed before now history history kits) (sym c.requires)
+          (headline_idle tells (number_of ended) crew crew c.args.hub.now.origin c.args.hub.now.origin out printed before now course history c.tally.ensures.legal (refl, refl) (Tells-same (GrowsBy []) crew (λ x. sym (append-nil x))) refl
           (Prints-weaker out printed (fault_line wrong) (Rose before now ⊎ (ended ≡ status.NoMemory)) (IsExcused before now (number_of ended))
           (λ either. elim either [ inl rose ↦ inl rose | inr memory ↦ inr (ap number_of memory) ]) c.refuse.ensures.printed)),
     )
@@ -66,7 +66,7 @@ returns-in-Err-clause-refused g c =
 pub returns-in-Err-clause-served : goal.returns-in-Err-clause-served
 returns-in-Err-clause-served g c =
     SiteGives-by_fault (map string_bytes c.args.words.now) c.in-Some.folder.now c.in-Err.fault (g.F.Files.told c.args.files.now) (g.F.Files.told c.build.new.files)
-    (NothingFailed g.W.Wire.failures_in_a_row (g.F.Files.faults c.args.files.now) (g.F.Files.faults c.build.new.files) (g.C.Crew.faults c.args.crew.now) (g.C.Crew.faults c.args.crew.now) (g.O.Sink.faults c.args.out.now) (g.O.Sink.faults c.refuse.new.out) c.args.kits.now.items)
+    (NothingFailed g.W.Wire.failures_in_a_row (g.F.Files.faults c.args.files.now) (g.F.Files.faults c.build.new.files) (g.C.Crew.faults c.args.crew.now) (g.C.Crew.faults c.args.crew.now) (g.O.Sink.faults c.args.out.now) (g.O.Sink.faults c.refuse.new.out) c.args.hub.now.history c.args.kits.now.items)
     c.refuse.result (sym c.in-Some.ensures) c.in-Err.ensures.told c.refuse.ensures.status (λ is fine. fine.files (c.in-Err.ensures.faults.cause (ap Err is)))
 
 pub returns-in-Err-clause-found : goal.returns-in-Err-clause-found

@@ -1,45 +1,88 @@
-use Rattle.std.proofs.Common.{ap, sym, ◌∙◌, subst}
+use Rattle.std.proofs.Common.{ℕ, List, ap, sym, ◌∙◌, subst}
+use Rattle.rad_turn.specs.Sides.{view}
 use Rattle.rad_core.specs.declared.started.Started.{Started}
-use Rattle.rad_core.specs.Entry.{Start}
-use Rattle.rad_core.specs.Step.{Step}
-use Rattle.rad_policy.specs.Seen.{arrived_of, GivesOutcome}
-use Rattle.rad_core.specs.Answers.{answer_seen, IsTicketOf}
-use Rattle.rad_core.specs.Core.{state_of}
+use Rattle.rad_core.specs.declared.entry.Entry.{Entry}
+use Rattle.rad_core.specs.declared.entry.Entry.TheVariants.{Start}
+use Rattle.rad_core.specs.Behind.{TurnAdds}
+use Rattle.rad_core.proofs.Behind.{alone_adds}
+use Rattle.rad_policy.specs.Policy.{IsAuthenticUnder}
+use Rattle.rad_policy.specs.Seen.{arrived_of, ending_seen, GivesOutcome}
+use Rattle.rad_core.specs.Answers.{answer_seen, IsTicketOf, IsHeld}
+use Rattle.rad_site.specs.declared.fault.BuildFault.{BuildFault}
 use Rattle.rad_site.specs.Site.{Site}
 use Rattle.rad_site.specs.Meaning.{site_meaning}
-use Rattle.radiusd.proofs.Turns.{IsUnfresh, turn_unfresh, turn_fresh, is_held}
+use Rattle.radiusd.specs.History.{state_after}
+use Rattle.radiusd.proofs.Turns.{IsUnfresh, turn_unfresh, counts_unfresh, turn_fresh, counts_fresh, is_held, authentic_at_place}
 use Rattle.radiusd.proofs.turn.take_turn.Goals as goal
-
-pub finish-requires-clause-held : goal.finish-requires-clause-held
-finish-requires-clause-held g c =
-    let arrival = arrived_of c.args.arrival.now in
-    let old = state_of c.args.core.now in
-    let mid = state_of c.start-started.new.self in
-    let ticket = subst (λ (s : Started Site). IsTicketOf mid s) c.in-Fresh.is c.start-started.ensures.ticket in
-    let step = subst (λ (s : Started Site). Step site_meaning old (Start arrival (answer_seen s)) mid) c.in-Fresh.is c.start-started.ensures.step in
-    let given = subst (λ (site : Site). GivesOutcome site_meaning site arrival c.in-Fresh.ticket.moment c.args.luck c.access-outcome.result) c.deref.ensures c.access-outcome.ensures.outcome in
-    is_held old mid arrival c.in-Fresh.ticket c.args.luck c.access-outcome.result ticket.0 ticket.1 step given
 
 pub returns-in-Dropped-clause-turn : goal.returns-in-Dropped-clause-turn
 returns-in-Dropped-clause-turn g c =
-    turn_unfresh (state_of c.args.core.now) (state_of c.start-started.new.self) c.args.entries.now.items c.push_reserved.new.self.items (arrived_of c.args.arrival.now) c.stored_arrival.result (answer_seen c.start-started.result) c.stored_answer-answer.result c.args.luck
-    c.push_reserved.ensures.items c.stored_arrival.ensures c.stored_answer-answer.ensures
-    (subst (λ (s : Started Site). IsUnfresh (answer_seen s)) (sym c.in-Dropped.is) tt) c.requires.idle c.start-started.ensures.step
+    turn_unfresh (view c.args.seat.now) (view c.start.new.seat) (arrived_of c.args.arrival.now) (answer_seen c.in-Ok.started) c.args.luck
+    (subst (λ (s : Started Site). IsUnfresh (answer_seen s)) (sym c.in-Dropped.is) tt) c.requires.alone c.in-Ok.ensures.had
+
+pub returns-in-Dropped-clause-counts : goal.returns-in-Dropped-clause-counts
+returns-in-Dropped-clause-counts g c =
+    counts_unfresh (view c.args.seat.now) (view c.start.new.seat) (arrived_of c.args.arrival.now) (answer_seen c.in-Ok.started) c.requires.alone c.in-Ok.ensures.had
 
 pub returns-in-NoMemory-clause-turn : goal.returns-in-NoMemory-clause-turn
 returns-in-NoMemory-clause-turn g c =
-    turn_unfresh (state_of c.args.core.now) (state_of c.start-started.new.self) c.args.entries.now.items c.push_reserved.new.self.items (arrived_of c.args.arrival.now) c.stored_arrival.result (answer_seen c.start-started.result) c.stored_answer-answer.result c.args.luck
-    c.push_reserved.ensures.items c.stored_arrival.ensures c.stored_answer-answer.ensures
-    (subst (λ (s : Started Site). IsUnfresh (answer_seen s)) (sym c.in-NoMemory.is) tt) c.requires.idle c.start-started.ensures.step
+    turn_unfresh (view c.args.seat.now) (view c.start.new.seat) (arrived_of c.args.arrival.now) (answer_seen c.in-Ok.started) c.args.luck
+    (subst (λ (s : Started Site). IsUnfresh (answer_seen s)) (sym c.in-NoMemory.is) tt) c.requires.alone c.in-Ok.ensures.had
 
-pub returns-in-Fresh-clause-turn : goal.returns-in-Fresh-clause-turn
-returns-in-Fresh-clause-turn g c =
+pub returns-in-NoMemory-clause-counts : goal.returns-in-NoMemory-clause-counts
+returns-in-NoMemory-clause-counts g c =
+    counts_unfresh (view c.args.seat.now) (view c.start.new.seat) (arrived_of c.args.arrival.now) (answer_seen c.in-Ok.started) c.requires.alone c.in-Ok.ensures.had
+
+pub access-outcome-requires-clause-authentic : goal.access-outcome-requires-clause-authentic
+access-outcome-requires-clause-authentic g c =
     let arrival = arrived_of c.args.arrival.now in
-    let old = state_of c.args.core.now in
-    let mid = state_of c.start-started.new.self in
-    let ticket = subst (λ (s : Started Site). IsTicketOf mid s) c.in-Fresh.is c.start-started.ensures.ticket in
-    let step = subst (λ (s : Started Site). Step site_meaning old (Start arrival (answer_seen s)) mid) c.in-Fresh.is c.start-started.ensures.step in
+    let v = view c.args.seat.now in
+    let m = view c.start.new.seat in
+    let mid = state_after m.seen in
+    let ticket = subst (λ (s : Started Site). IsTicketOf mid s) c.in-Fresh.is c.in-Ok.ensures.ticket in
+    let adds = subst (λ (s : Started Site). TurnAdds site_meaning v m (Start arrival (answer_seen s))) c.in-Fresh.is c.in-Ok.ensures.had in
+    let step = (alone_adds site_meaning v m c.requires.alone.name c.requires.alone.out _ adds).1 in
+    subst (λ (site : Site). IsAuthenticUnder site_meaning site arrival) (sym c.deref.ensures) (authentic_at_place (state_after v.seen) mid arrival c.in-Fresh.ticket ticket.0 step)
+
+pub finish-requires-clause-finds : goal.finish-requires-clause-finds
+finish-requires-clause-finds g c =
+    let arrival = arrived_of c.args.arrival.now in
+    let v = view c.args.seat.now in
+    let m = view c.start.new.seat in
+    let old = state_after v.seen in
+    let mid = state_after m.seen in
+    let name = c.in-Ok.ensures.same.name ∙ c.requires.alone.name in
+    let out = c.in-Ok.ensures.same.out ∙ c.requires.alone.out in
+    let ticket = subst (λ (s : Started Site). IsTicketOf mid s) c.in-Fresh.is c.in-Ok.ensures.ticket in
+    let adds = subst (λ (s : Started Site). TurnAdds site_meaning v m (Start arrival (answer_seen s))) c.in-Fresh.is c.in-Ok.ensures.had in
+    let step = (alone_adds site_meaning v m c.requires.alone.name c.requires.alone.out _ adds).1 in
     let given = subst (λ (site : Site). GivesOutcome site_meaning site arrival c.in-Fresh.ticket.moment c.args.luck c.access-outcome.result) c.deref.ensures c.access-outcome.ensures.outcome in
-    turn_fresh old mid arrival c.in-Fresh.ticket c.args.luck c.access-outcome.result (state_of c.finish.new.self) c.args.entries.now.items c.push_reserved.new.self.items c.push_reserved-in-Fresh.new.self.items c.stored_arrival.result c.stored_answer-answer.result c.stored_ending-ending.result c.copied-reply.result c.copied-reply.new.buffer
-    c.push_reserved.ensures.items c.stored_arrival.ensures (c.stored_answer-answer.ensures ∙ ap (answer_seen {P = Site}) c.in-Fresh.is)
-    c.push_reserved-in-Fresh.ensures.items c.stored_ending-ending.ensures c.requires.idle ticket.0 ticket.1 step given c.finish.ensures.step c.copied-reply.ensures.reply
+    λ log legal learns short.
+    subst (λ (l : List (Entry Site BuildFault)). IsHeld site_meaning (state_after l) c.in-Fresh.ticket m.name (ending_seen c.access-outcome.result)) (sym (learns.alone name out))
+    (subst (λ (n : ℕ). IsHeld site_meaning mid c.in-Fresh.ticket n (ending_seen c.access-outcome.result)) (c.requires.worker ∙ sym name)
+    (is_held old mid arrival c.in-Fresh.ticket c.args.luck c.access-outcome.result ticket.0 ticket.1 step given))
+
+pub returns-in-Ok-finish-clause-turn : goal.returns-in-Ok-finish-clause-turn
+returns-in-Ok-finish-clause-turn g c =
+    let arrival = arrived_of c.args.arrival.now in
+    let v = view c.args.seat.now in
+    let m = view c.start.new.seat in
+    let w = view c.finish.new.seat in
+    let mid = state_after m.seen in
+    let name = c.in-Ok.ensures.same.name ∙ c.requires.alone.name in
+    let out = c.in-Ok.ensures.same.out ∙ c.requires.alone.out in
+    let ticket = subst (λ (s : Started Site). IsTicketOf mid s) c.in-Fresh.is c.in-Ok.ensures.ticket in
+    let adds = subst (λ (s : Started Site). TurnAdds site_meaning v m (Start arrival (answer_seen s))) c.in-Fresh.is c.in-Ok.ensures.had in
+    let given = subst (λ (site : Site). GivesOutcome site_meaning site arrival c.in-Fresh.ticket.moment c.args.luck c.access-outcome.result) c.deref.ensures c.access-outcome.ensures.outcome in
+    turn_fresh v m w arrival c.in-Fresh.ticket c.args.luck c.access-outcome.result c.copied-reply.result c.copied-reply.new.buffer c.requires.alone name out c.requires.worker adds ticket.0 ticket.1 given c.in-Ok-finish.ensures.had c.copied-reply.ensures.reply
+
+pub returns-in-Ok-finish-clause-counts : goal.returns-in-Ok-finish-clause-counts
+returns-in-Ok-finish-clause-counts g c =
+    let arrival = arrived_of c.args.arrival.now in
+    let v = view c.args.seat.now in
+    let m = view c.start.new.seat in
+    let w = view c.finish.new.seat in
+    let name = c.in-Ok.ensures.same.name ∙ c.requires.alone.name in
+    let out = c.in-Ok.ensures.same.out ∙ c.requires.alone.out in
+    let adds = subst (λ (s : Started Site). TurnAdds site_meaning v m (Start arrival (answer_seen s))) c.in-Fresh.is c.in-Ok.ensures.had in
+    counts_fresh v m w arrival c.in-Fresh.ticket c.args.luck c.access-outcome.result c.copied-reply.result c.copied-reply.new.buffer c.requires.alone name out adds c.in-Ok-finish.ensures.had c.copied-reply.ensures.reply

@@ -1,28 +1,24 @@
-use Rattle.std.proofs.Common.{List, ap, subst}
-use Rattle.rad_core.specs.Entry.{Entry, Look}
+use Rattle.std.proofs.Common.{◌<◌, ◌^◌, List, length, refl, ap, sym, ◌∙◌, subst}
+use Rattle.rad_turn.specs.Sides.{view}
 use Rattle.rad_core.specs.State.{ServerState}
-use Rattle.rad_core.specs.Core.{state_of}
+use Rattle.rad_core.specs.declared.entry.Entry.{Entry}
+use Rattle.rad_core.specs.declared.entry.Entry.TheVariants.{Look}
 use Rattle.rad_site.specs.declared.fault.BuildFault.{BuildFault}
-use Rattle.radiusd.specs.declared.entry.StoredEntry.TheVariants as stored
 use Rattle.rad_site.specs.Site.{Site}
 use Rattle.radiusd.specs.HubSeen.{HubSeen}
-use Rattle.radiusd.specs.History.{history_of, Adds}
-use Rattle.radiusd.proofs.Turns.{history_of-push}
-use Rattle.radiusd.proofs.Kept.{kept_after_step, adds_step}
+use Rattle.radiusd.proofs.Tallies.{tally_still}
+use Rattle.radiusd.proofs.Kept.{grows, stepped, kept_one}
 use Rattle.radiusd.proofs.hub.Hub.look.Goals as goal
 
 pub invariant_of-self : goal.invariant_of-self
 invariant_of-self g c =
-    kept_after_step (history_of c.self.inside.entries.items) (history_of c.push_reserved.new.self.items)
-    (state_of c.self.inside.core) (state_of c.look-seen.new.self) (Look c.args.worker c.look-seen.result) c.self.invariant
-    (history_of-push c.self.inside.entries.items c.push_reserved.new.self.items (stored.Look c.args.worker c.look-seen.result) c.push_reserved.ensures.items)
-    c.look-seen.ensures.step (ap (λ (s : ServerState Site). s.table) c.look-seen.ensures.step.next) (ap (λ (s : ServerState Site). s.entries) c.look-seen.ensures.step.next)
-
-pub returns-clause-added : goal.returns-clause-added
-returns-clause-added g c =
-    subst (λ (h : List (Entry Site BuildFault)). Adds h (history_of c.push_reserved.new.self.items) (Look c.args.worker c.look-seen.result))
-    (ap (λ (h : HubSeen _). h.history) c.self.view_is)
-    (adds_step (history_of c.self.inside.entries.items) (history_of c.push_reserved.new.self.items)
-    (state_of c.self.inside.core) (state_of c.look-seen.new.self) (Look c.args.worker c.look-seen.result) c.self.invariant
-    (history_of-push c.self.inside.entries.items c.push_reserved.new.self.items (stored.Look c.args.worker c.look-seen.result) c.push_reserved.ensures.items)
-    c.look-seen.ensures.step)
+    let v = view c.self.inside.seat in
+    let w = view c.look.new.seat in
+    let entry : Entry Site BuildFault = Look v.name c.in-Ok.seen in
+    let alone = c.self.invariant.1 in
+    let adds = c.in-Ok.ensures.had in
+    let few = subst (λ (h : List (Entry Site BuildFault)). length h < 2 ^ 62) (sym (ap (λ (h : HubSeen _). h.history) c.self.view_is)) c.requires in
+    let kept = kept_one v w entry alone adds c.self.inside.length c.self.inside.tally c.self.inside.tally c.look.ensures.same
+    (ap (λ (s : ServerState Site). s.table) (stepped v w entry alone adds).next) c.self.invariant.2 few
+    (c.self.invariant.2.tally_is ∙ sym (tally_still v.seen w.seen entry (grows v w entry alone adds) refl refl refl refl)) in
+    (c.look.ensures.own, kept.0, kept.1)

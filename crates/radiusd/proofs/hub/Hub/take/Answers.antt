@@ -1,31 +1,39 @@
-use Rattle.std.proofs.Common.{List, ap, subst}
-use Rattle.rad_core.specs.Entry.{Entry}
-use Rattle.rad_policy.specs.Seen.{arrived_of}
-use Rattle.rad_core.specs.Core.{state_of}
+use Rattle.std.proofs.Common.{◌+◌, ◌≤◌, ◌^◌, List, length, Bool, ap, sym, ◌∙◌, subst, arith}
+use Rattle.rad_turn.specs.Sides.{view}
+use Rattle.rad_core.specs.State.{opening}
+use Rattle.rad_core.specs.Step.{IsLegal}
+use Rattle.rad_core.specs.declared.entry.Entry.{Entry}
+use Rattle.rad_core.proofs.Histories.{IsLegal-append}
 use Rattle.rad_site.specs.declared.fault.BuildFault.{BuildFault}
 use Rattle.rad_site.specs.Site.{Site}
+use Rattle.rad_site.specs.Meaning.{site_meaning}
+use Rattle.radiusd.specs.declared.counts.Tally.{Tally}
+use Rattle.radiusd.specs.Counting.{tally_of, with_request}
 use Rattle.radiusd.specs.HubSeen.{HubSeen}
-use Rattle.radiusd.specs.History.{history_of, state_after}
-use Rattle.radiusd.specs.Turn.{AddsTurn, answers_of}
-use Rattle.radiusd.proofs.Kept.{kept_after_turn, turn_of_histories}
 use Rattle.radiusd.proofs.hub.Hub.take.Goals as goal
 
 pub invariant_of-self : goal.invariant_of-self
 invariant_of-self g c =
-    let arrival = arrived_of c.args.arrival.now in
-    kept_after_turn (history_of c.self.inside.entries.items) (history_of c.take_turn.new.entries.items)
-    (state_of c.self.inside.core) (state_of c.take_turn.new.core) arrival c.args.luck
-    (answers_of arrival c.take_turn.result c.take_turn.new.buffer) c.self.invariant c.take_turn.ensures.turn
-
-pub returns-clause-turn : goal.returns-clause-turn
-returns-clause-turn g c =
-    let arrival = arrived_of c.args.arrival.now in
-    let replies = answers_of arrival c.take_turn.result c.take_turn.new.buffer in
-    let before = history_of c.self.inside.entries.items in
-    let after = history_of c.take_turn.new.entries.items in
-    let old = state_of c.self.inside.core in
-    let new = state_of c.take_turn.new.core in
-    let kept = kept_after_turn before after old new arrival c.args.luck replies c.self.invariant c.take_turn.ensures.turn in
-    subst (λ (h : List (Entry Site BuildFault)). AddsTurn h after (state_after h) (state_after after) arrival c.args.luck replies)
-    (ap (λ (h : HubSeen _). h.history) c.self.view_is)
-    (turn_of_histories before after old new arrival c.args.luck replies c.self.invariant.state_is kept.state_is c.take_turn.ensures.turn)
+    let v = view c.self.inside.seat in
+    let w = view c.take_turn-taken.new.seat in
+    let turn = c.take_turn-taken.ensures.turn in
+    let counts = c.take_turn-taken.ensures.counts in
+    let same = c.take_turn-taken.ensures.same in
+    let alone = c.self.invariant.1 in
+    let numbered = c.self.invariant.2 in
+    let few = subst (λ (h : List (Entry Site BuildFault)). length h + 2 ≤ 2 ^ 62) (sym (ap (λ (h : HubSeen _). h.history) c.self.view_is)) c.requires.few in (
+      c.take_turn-taken.ensures.own,
+      record {
+        name = same.name ∙ alone.name;
+        out = same.out ∙ alone.out;
+        kept = record {
+          legal = subst (λ (h : List (Entry Site BuildFault)). IsLegal site_meaning opening h) (sym turn.1) (IsLegal-append site_meaning opening v.seen turn.0 alone.kept.legal turn.2.legal);
+          idle = turn.2.idle;
+        };
+      },
+      record {
+        count_is = ap (λ n. n + c.take_turn-taken.result.entries) numbered.count_is ∙ sym counts.more;
+        short = omega (arith, counts.more, counts.few, few);
+        tally_is = c.with_request-self-inside.ensures ∙ ap (λ (t : Tally). with_request c.is_some.result t) numbered.tally_is ∙ ap (λ (b : Bool). with_request b (tally_of v.seen)) c.is_some.ensures ∙ sym counts.tally;
+      },
+    )

@@ -1,0 +1,189 @@
+//! The desk with a core behind it.
+ghost use Rattle.std.specs.Prelude.{◌≡◌, ◌≢◌, ◌-◌, ◌^◌, ◌<◌, [], length, IfOk, IfErr, OnErr, IsSome};
+ghost use Rattle.rad_turn.specs.Sides.{view, IsOf};
+ghost use Rattle.rad_turn.specs.Views.{beginner, IsSameSeat, Stood};
+ghost use Rattle.rad_turn.specs.Seated.{Parts, Joins};
+ghost use Rattle.rad_outside.specs.declared.listen.ListenKind.TheVariants.{Auth};
+ghost use Rattle.rad_policy.specs.Seen.{arrived_of, ending_seen};
+ghost use Rattle.rad_core.specs.State.{opening};
+ghost use Rattle.rad_core.specs.Entry.{Start, Finish, Install, Look, Stop, worker_of};
+ghost use Rattle.rad_core.specs.Step.{IsNew, run};
+ghost use Rattle.rad_core.specs.Answers.{answer_seen, load_seen, IsTicketOf, IsHeld};
+ghost use Rattle.rad_core.specs.Core.{state_of, origin_of};
+ghost use Rattle.rad_core.specs.Behind.{StandsFor, FindsOnly, TurnAdds, IsWorn};
+
+use crate::installed::Installed;
+use crate::machine::Core;
+use crate::seen::Seen;
+use crate::started::{Started, Ticket};
+use crate::steps::{FinishStep, InstallStep, LookStep, StartStep, StopStep};
+use rad_outside::{Listen, NoMemory, Shelf};
+use rad_policy::{Arrival, Outcome, Policy};
+use rad_turn::{CloseFault, Desk, Seat, Worn};
+use std::alloc::Global;
+use std::sync::{Arc, Wait};
+
+/// A desk with a core behind it: each of its calls from `start` to `stop` is one turn, whose step is the core's call of
+/// that name, under the seat's name.
+#[derive(Drop)]
+pub struct Post<P: Policy, L> {
+    desk: Desk<Core<P, L>>,
+}
+
+impl<P: Policy, L: Shelf> Post<P, L> {
+    /// A post over a core on which nothing has happened, and its first seat. Without memory the core comes back.
+    pub fn new(
+        alloc: Global,
+        core: Core<P, L>,
+    ) -> Result<(Post<P, L>, Seat<Core<P, L>>), (Core<P, L>, NoMemory)>
+        requires { state_of core ≡ opening }
+        ensures made { IfOk result (λ made. IsOf made.0.desk made.1 × (view made.1 ≡ beginner (origin_of core) tt)) }
+        ensures back { IfErr result (λ back. back.0 ≡ core) }
+    {
+        match Desk::new(alloc, core) {
+            Ok((desk, seat)) => Ok((Post { desk }, seat)),
+            Err(back) => Err(back),
+        }
+    }
+
+    /// A datagram of an auth listener came in. The buffer is left as it was.
+    pub fn start<R: Wait>(
+        &self,
+        rt: &R,
+        seat: &mut Seat<Core<P, L>>,
+        arrival: &Arrival,
+        reply: &mut [u8; 4096],
+    ) -> Result<Started<P>, Worn>
+        requires own { IsOf self.now.desk seat.old }
+        requires worker { arrival.now.worker ≡ (view seat.old).name }
+        requires auth { arrival.now.kind ≡ Auth }
+        requires finds { FindsOnly P.meaning (view seat.old) (λ state. IsSome state.present × IsNew state (arrived_of arrival.now)) }
+        ensures own { IsOf self.now.desk seat.new }
+        ensures same { IsSameSeat (view seat.old) (view seat.new) }
+        ensures had { IfOk result (λ started. TurnAdds P.meaning (view seat.old) (view seat.new) (Start (arrived_of arrival.entry.now) (answer_seen started))) }
+        ensures ticket { IfOk result (λ started. IsTicketOf (run P.meaning opening (view seat.new).seen) started) }
+        ensures worn { IfErr result (λ worn. IsWorn P.meaning (view seat.old) (view seat.new) worn.count) }
+        ensures buffer { reply.new ≡ reply.old }
+    {
+        let _ = reply;
+        let mut step = StartStep { arrival: *arrival };
+        self.desk.turn(rt, seat, &mut step)
+    }
+
+    /// The seat's worker has ended the request of a ticket. After `Worn` the ticket is given up.
+    pub fn finish<R: Wait>(
+        &self,
+        rt: &R,
+        seat: &mut Seat<Core<P, L>>,
+        ticket: Ticket<P>,
+        outcome: Outcome,
+    ) -> Result<(), Worn>
+        requires own { IsOf self.now.desk seat.old }
+        requires finds { FindsOnly P.meaning (view seat.old) (λ state. IsHeld P.meaning state ticket (view seat.old).name (ending_seen outcome)) }
+        ensures own { IsOf self.now.desk seat.new }
+        ensures same { IsSameSeat (view seat.old) (view seat.new) }
+        ensures had { IfOk result (λ _. TurnAdds P.meaning (view seat.old) (view seat.new) (Finish (view seat.old).name ticket.place (ending_seen outcome))) }
+        ensures worn { IfErr result (λ worn. IsWorn P.meaning (view seat.old) (view seat.new) worn.count) }
+    {
+        let mut step = FinishStep {
+            worker: seat.name(),
+            ticket,
+            outcome,
+        };
+        self.desk.turn(rt, seat, &mut step)
+    }
+
+    /// Makes a loaded generation the present one, where it has a server for each listener. After `Worn` the load is
+    /// given up.
+    pub fn install<R: Wait>(
+        &self,
+        rt: &R,
+        seat: &mut Seat<Core<P, L>>,
+        load: Result<Arc<P>, P::Fault>,
+        listeners: &[Listen],
+    ) -> Result<Installed<P::Fault>, Worn>
+        requires own { IsOf self.now.desk seat.old }
+        ensures own { IsOf self.now.desk seat.new }
+        ensures same { IsSameSeat (view seat.old) (view seat.new) }
+        ensures had { IfOk result (λ installed. TurnAdds P.meaning (view seat.old) (view seat.new) (Install (view seat.old).name (load_seen load) listeners.entry.now installed)) }
+        ensures worn { IfErr result (λ worn. IsWorn P.meaning (view seat.old) (view seat.new) worn.count) }
+    {
+        let mut step = InstallStep {
+            worker: seat.name(),
+            load,
+            listeners,
+        };
+        self.desk.turn(rt, seat, &mut step)
+    }
+
+    /// The seat's worker looks at the server: what its state is now.
+    pub fn look<R: Wait>(&self, rt: &R, seat: &mut Seat<Core<P, L>>) -> Result<Seen, Worn>
+        requires own { IsOf self.now.desk seat.old }
+        ensures own { IsOf self.now.desk seat.new }
+        ensures same { IsSameSeat (view seat.old) (view seat.new) }
+        ensures had { IfOk result (λ seen. TurnAdds P.meaning (view seat.old) (view seat.new) (Look (view seat.old).name seen)) }
+        ensures worn { IfErr result (λ worn. IsWorn P.meaning (view seat.old) (view seat.new) worn.count) }
+    {
+        let mut step = LookStep {
+            worker: seat.name(),
+        };
+        self.desk.turn(rt, seat, &mut step)
+    }
+
+    /// The seat's worker stops the server: each worker that looks from now on sees it.
+    pub fn stop<R: Wait>(&self, rt: &R, seat: &mut Seat<Core<P, L>>) -> Result<(), Worn>
+        requires own { IsOf self.now.desk seat.old }
+        ensures own { IsOf self.now.desk seat.new }
+        ensures same { IsSameSeat (view seat.old) (view seat.new) }
+        ensures had { IfOk result (λ _. TurnAdds P.meaning (view seat.old) (view seat.new) (Stop (view seat.old).name)) }
+        ensures worn { IfErr result (λ worn. IsWorn P.meaning (view seat.old) (view seat.new) worn.count) }
+    {
+        let mut step = StopStep {
+            worker: seat.name(),
+        };
+        self.desk.turn(rt, seat, &mut step)
+    }
+
+    /// A new seat beside the first one, with the least positive name that isn't out. It has seen as much.
+    pub fn split(&self, seat: &mut Seat<Core<P, L>>) -> Result<Seat<Core<P, L>>, NoMemory>
+        requires own { IsOf self.now.desk seat.old }
+        requires first { (view seat.old).name ≡ 0 }
+        requires room { length (view seat.old).out < 2 ^ 32 - 1 }
+        ensures own { IsOf self.now.desk seat.new }
+        ensures parts { IfOk result (λ new. IsOf self.now.desk new × Parts (view seat.old) (view seat.new) (view new)) }
+        ensures refused { OnErr result (view seat.new ≡ view seat.old) }
+    {
+        self.desk.split(seat)
+    }
+
+    /// The first seat takes in another one: it has then seen what either had.
+    pub fn join(&self, seat: &mut Seat<Core<P, L>>, other: Seat<Core<P, L>>)
+        requires own { IsOf self.now.desk seat.old × IsOf self.now.desk other }
+        requires first { (view seat.old).name ≡ 0 }
+        ensures own { IsOf self.now.desk seat.new }
+        ensures joins { Joins worker_of (view seat.old) (view other) (view seat.new) }
+    {
+        self.desk.join(seat, other)
+    }
+
+    /// The core, where no other seat is out. Else post and seat come back as they were.
+    pub fn close(self, seat: Seat<Core<P, L>>) -> Result<Core<P, L>, (Post<P, L>, Seat<Core<P, L>>)>
+        requires own { IsOf self.desk seat }
+        requires first { (view seat).name ≡ 0 }
+        ensures closed { IfOk result (λ core. ((view seat).out ≡ []) × Stood (StandsFor P.meaning) origin_of (view seat).origin (view seat).seen core) }
+        ensures refused { IfErr result (λ back. ((view seat).out ≢ []) × (back.0 ≡ self) × (back.1 ≡ seat)) }
+    {
+        let Post { desk } = self;
+        match desk.close(seat) {
+            Ok(core) => Ok(core),
+            Err(CloseFault::OtherSeats(desk, seat)) => Err((Post { desk }, seat)),
+        }
+    }
+}
+
+fn may_be_shared<T: Send + Sync>() {}
+
+/// Where generations may be shared by threads and a log may go to another, any thread may use a post of them.
+pub fn crosses_threads<P: Policy + Send + Sync, L: Send>() {
+    may_be_shared::<Post<P, L>>();
+}
