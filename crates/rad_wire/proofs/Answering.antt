@@ -52,7 +52,7 @@ fault_without_accepted fault request reply secret first h = accepted_without_fau
 
 -- ---- a reply has no Message-Authenticator
 
-without-append : (xs ys : List Attribute) → of_kind 80 xs ≡ [] → of_kind 80 ys ≡ [] → of_kind 80 (xs ++ ys) ≡ []
+pub without-append : (xs ys : List Attribute) → of_kind 80 xs ≡ [] → of_kind 80 ys ≡ [] → of_kind 80 (xs ++ ys) ≡ []
 without-append xs ys none more =
     filter-append (λ (a : Attribute). a.kind == 80) xs ys
     ∙ ap (λ (list : List Attribute). list ++ of_kind 80 ys) none ∙ more
@@ -168,7 +168,7 @@ packet_rest : (code id : ℕ) (authenticator : List ℕ) (attributes : List Attr
     → drop 20 (packet_octets code id authenticator attributes) ≡ flat_map spelled attributes
 packet_rest code id authenticator attributes long = drop_at authenticator (flat_map spelled attributes) 16 long
 
-packet_authenticator : (code id : ℕ) (authenticator : List ℕ) (attributes : List Attribute) → length authenticator ≡ 16
+pub packet_authenticator : (code id : ℕ) (authenticator : List ℕ) (attributes : List Attribute) → length authenticator ≡ 16
     → authenticator_of (packet_octets code id authenticator attributes) ≡ authenticator
 packet_authenticator code id authenticator attributes long = take_at authenticator (flat_map spelled attributes) 16 long
 

@@ -6,5 +6,6 @@ pub mod Fitting
 pub mod Drafts
 pub mod Requests
 pub mod Answering
+pub mod RequestsDecoded
 pub mod AttributePairs
 pub mod RepliesDecoded

@@ -41,7 +41,7 @@ value_again (values.Byte number) h = refl
 value_again (values.Short number) h = ap values.Short (from_be_bytes-to_be_bytes_2 number h)
 
 -- an attribute with these octets is the pair that it was
-pair_again : (attr : AttrId) (value : Value) (octets : List ℕ) (dict : Definitions) → IsInRange value → kind_of_value value ≡ kind_of attr dict
+pub pair_again : (attr : AttrId) (value : Value) (octets : List ℕ) (dict : Definitions) → IsInRange value → kind_of_value value ≡ kind_of attr dict
     → octets ≡ octets_of value → pair_of attr octets dict ≡ record { attr = attr; value = value }
 pair_again attr value octets dict range kind same =
     let made : Value → Pair = λ v. record { attr = attr; value = v } in
@@ -68,7 +68,7 @@ second_false true b c d e h = let no_way : true ≡ false = h in cc
 second_false false true c d e h = h
 second_false false false c d e h = refl
 
-without_parts : (octets : List ℕ) (value : Value) (dict : Definitions) → HasNoParts value → octets ≡ octets_of value
+pub without_parts : (octets : List ℕ) (value : Value) (dict : Definitions) → HasNoParts value → octets ≡ octets_of value
     → vendor_pairs octets dict (vendor_parts octets) ≡ record { attr = standard 26; value = value } ∷ []
 without_parts octets (values.Octets raw) dict none same = rw (same, none) refl
 without_parts octets (values.Text text) dict none same = absurd none

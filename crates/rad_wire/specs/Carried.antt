@@ -1,4 +1,4 @@
--- Which pairs come back from a reply as they were: RFC 2865 sections 5 and 5.26.
+-- Which pairs come back from a reply or a request as they were: RFC 2865 sections 5, 5.2 and 5.26.
 use Rattle.std.specs.Prelude.{ℕ, ◌≡◌, ◌≢◌, ◌<◌, ◌≤◌, ◌^◌, List, [], length, map}
 use Rattle.std.specs.List.{flat_map}
 use Rattle.rad_words.specs.declared.attributes.Space.{Space}
@@ -8,6 +8,7 @@ use Rattle.rad_value.specs.declared.values.Value.{Value}
 use Rattle.rad_value.specs.declared.values.Value.TheVariants as values
 use Rattle.rad_value.specs.Kinds.{kind_of_value}
 use Rattle.rad_dict.specs.Definitions.{Definitions}
+use Rattle.rad_packet.specs.Hiding.{HasNoTrailingZero}
 use Rattle.rad_packet.specs.Packet.{Attribute, spelled}
 use Rattle.rad_wire.specs.Pairs.{kind_of, pair_of, standard, vendor_parts}
 use Rattle.rad_wire.specs.Reply.{attributes_for, proxy_state_attributes, room_beside}
@@ -51,3 +52,27 @@ FitBeside pairs request = length (flat_map spelled (flat_map attributes_for pair
 abbrev pub proxy_state_pairs : List ℕ → Definitions → List Pair
 proxy_state_pairs request dict =
     map (λ (a : Attribute). pair_of (standard a.kind) a.value dict) (proxy_state_attributes request)
+
+-- A password that is hidden and revealed again: text of at most 128 octets without a zero octet at its end (RFC 2865
+-- section 5.2).
+abbrev pub IsPassword : Value → Type 0
+IsPassword (values.Text text) = (length text ≤ 128) × HasNoTrailingZero text
+IsPassword (values.Octets octets) = ⊥
+IsPassword (values.Addr address) = ⊥
+IsPassword (values.Number number) = ⊥
+IsPassword (values.Date seconds) = ⊥
+IsPassword (values.Byte number) = ⊥
+IsPassword (values.Short number) = ⊥
+
+-- An Access-Request carries this pair, and it is read again by this dictionary: it has a number of one octet and isn't
+-- internal, its value is uncut, in range and of its attribute's kind, a User-Password is a password, a CHAP-Password has the
+-- 17 octets of one, a value of the standard attribute 26 isn't read as parts, and it is no Message-Authenticator.
+pub record IsAsked (dict : Definitions) (pair : Pair) : Type 0 where
+  pub number : pair.attr.number ≤ 255
+  pub uncut : IsUncut pair.attr.space (length (octets_of pair.value))
+  pub kind : pair.attr ≢ standard 2 → kind_of_value pair.value ≡ kind_of pair.attr dict
+  pub range : IsInRange pair.value
+  pub password : pair.attr ≡ standard 2 → IsPassword pair.value
+  pub chap : pair.attr ≡ standard 3 → length (octets_of pair.value) ≡ 17
+  pub plain : pair.attr ≡ standard 26 → HasNoParts pair.value
+  pub other : pair.attr ≢ standard 80

@@ -7,7 +7,7 @@ ghost use Rattle.rad_value.specs.declared.values.Pair.{Pair};
 ghost use Rattle.rad_packet.specs.Packet.{Attribute, AreAttributes, IsPacket, IsWellFormed, code_of, id_of};
 ghost use Rattle.rad_packet.specs.Authentic.{IsSigned};
 ghost use Rattle.rad_wire.specs.Accepts.{Accepts, FaultHolds, IsFirstFault, is_reply_code};
-ghost use Rattle.rad_wire.specs.Carried.{FitBeside, IsCarried, proxy_state_pairs};
+ghost use Rattle.rad_wire.specs.Carried.{FitBeside, IsAsked, IsCarried, proxy_state_pairs};
 ghost use Rattle.rad_wire.specs.Pairs.{pairs_of, vendor_parts};
 ghost use Rattle.rad_wire.specs.Reply.{reply_attributes, reply_octets};
 ghost use Rattle.rad_wire.specs.Request.{request_octets};
@@ -67,4 +67,13 @@ pub fn requests_are_signed()
         → code_of (request_octets code id authenticator pairs secret) ≡ code }
     ensures id { (code id : ℕ) (authenticator : List ℕ) (pairs : List Pair) (secret : List ℕ)
         → id_of (request_octets code id authenticator pairs secret) ≡ id }
+{}
+
+/// What an Access-Request carries is decoded again: pairs that it carries whole come back in order, passwords revealed (RFC
+/// 2865 sections 5 and 5.2). The Request Authenticator has 16 octets, and the packet at most 4,096.
+pub fn requests_are_decoded()
+    ensures { (id : ℕ) (authenticator : List ℕ) (pairs : List Pair) (secret : List ℕ) (dict : Definitions)
+        → length authenticator ≡ 16 → length (request_octets 1 id authenticator pairs secret) ≤ 4096
+        → All (IsAsked dict) pairs
+        → pairs_of (request_octets 1 id authenticator pairs secret) secret dict ≡ pairs }
 {}

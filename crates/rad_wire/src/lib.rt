@@ -23,7 +23,7 @@ pub use accepting::accepts_reply;
 pub use decoding::decode;
 pub use laws::{
     accepted_replies_have_no_fault, replies_are_accepted, replies_are_decoded, replies_are_packets,
-    requests_are_signed, vendor_parts_have_one_reading,
+    requests_are_decoded, requests_are_signed, vendor_parts_have_one_reading,
 };
 pub use rad_packet::{
     Checked, Client, DropCause, HideFault, RevealFault, attributes_have_one_reading,
