@@ -1,7 +1,12 @@
-pub mod WordLemmas
 pub mod Weight
 pub mod Opens
-pub mod Turns
-pub mod Starts
-pub mod Made
-pub mod Grown
+pub mod Tellings
+pub mod WordLemmas
+pub mod Sources
+pub mod Going
+pub mod IncludedFiles
+pub mod Confs
+pub mod Seen
+pub mod Quoted
+pub mod PlacesLemmas
+pub mod FoundPairs

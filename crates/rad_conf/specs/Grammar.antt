@@ -1,35 +1,46 @@
--- The grammar of a tree, apart from its reading: which marks make which nodes. After the manual page radiusd.conf(5).
-use Rattle.std.specs.Prelude.{◌≡◌, ℕ, ◌+◌, List, [], ◌∷◌, ◌++◌, length, map, Option, Result, Ok}
-use Rattle.rad_conf.specs.declared.fault.Wrong.{Wrong}
+-- How words are written, apart from how they are read. After the manual page radiusd.conf(5).
+use Rattle.std.specs.Prelude.{◌≡◌, ℕ, Bool, true, false, ◌||◌, ◌==◌, List, [], ◌∷◌, ◌++◌, Ok, if◌then◌else◌}
+use Rattle.rad_conf.specs.declared.tree.Quote.{Quote}
+use Rattle.rad_conf.specs.declared.tree.Quote.TheVariants.{Single, Double}
 use Rattle.rad_conf.specs.declared.tree.Word.{Word}
-use Rattle.rad_conf.specs.declared.tree.Node.{Node}
-use Rattle.rad_conf.specs.declared.tree.Item.{Item}
-use Rattle.rad_conf.specs.declared.tree.Item.TheVariants as item
-use Rattle.rad_conf.specs.declared.mark.Mark.{Mark}
-use Rattle.rad_conf.specs.declared.mark.Mark.TheVariants as mark
-use Rattle.rad_conf.specs.Marks.{marks_in}
-use Rattle.rad_conf.specs.Growth.{place_at}
-use Rattle.rad_conf.specs.Conf.{conf_of}
+use Rattle.rad_conf.specs.declared.growth.Growth.{Growth}
+use Rattle.rad_conf.specs.Words.{word_at}
 
--- A mark that was read.
-abbrev pub read : Mark → Result Mark Wrong
-read one = Ok one
+-- Whether an octet stands nowhere in a text.
+unfoldable pub lacks : ℕ → List ℕ → Bool
+lacks octet [] = true
+lacks octet (c ∷ text) = if c == octet then false else lacks octet text
 
--- In the file of this name these marks, from a line to a line, make these nodes.
-pub data Makes (name : List ℕ) : ℕ → List Mark → ℕ → List Node → Type 0 where
-  none : {line : ℕ} → Makes name line [] line []
-  passed : {line last : ℕ} {marks : List Mark} {nodes : List Node} → Makes name line marks last nodes → Makes name line (mark.Passed ∷ marks) last nodes
-  next_line : {line last : ℕ} {marks : List Mark} {nodes : List Node} → Makes name (line + 1) marks last nodes → Makes name line (mark.NextLine ∷ marks) last nodes
-  whole : {line last : ℕ} {marks : List Mark} {nodes : List Node} (one : Item) → Makes name line marks last nodes → Makes name line (mark.Whole one ∷ marks) last (record { place = place_at name line; item = one } ∷ nodes)
-  block : {line middle last : ℕ} {inside marks : List Mark} {body nodes : List Node} (kind : Word) (called : Option Word) → Makes name line inside middle body → Makes name middle marks last nodes
-      → Makes name line (mark.Opens kind called ∷ (inside ++ mark.Closes ∷ marks)) last (record { place = place_at name line; item = item.Block kind called body } ∷ nodes)
+-- A text between single quotes: a backslash stands before each `'` and each `\`, and all else stands for itself.
+unfoldable pub in_single : List ℕ → List ℕ
+in_single [] = []
+in_single (c ∷ text) = if c == 39 || c == 92 then 92 ∷ (c ∷ in_single text) else c ∷ in_single text
 
--- What is read is made so: the marks of the text, all of them, make the tree.
-abbrev pub IsMade : Type 0
-IsMade = (name text : List ℕ) (tree : List Node) → conf_of name text ≡ Ok tree
-    → (made : List Mark) × (last : ℕ) × (marks_in (length text) text ≡ map read made) × Makes name 1 made last tree
+-- An octet between double quotes: `\"` and `\\`, and `\n`, `\r` and `\t` for a newline, a carriage return and a tab; all else stands for
+-- itself.
+unfoldable pub double_octet : ℕ → List ℕ
+double_octet c =
+    if c == 34 || c == 92 then 92 ∷ (c ∷ [])
+    else (if c == 10 then 92 ∷ (110 ∷ [])
+    else (if c == 13 then 92 ∷ (114 ∷ [])
+    else (if c == 9 then 92 ∷ (116 ∷ [])
+    else c ∷ [])))
 
--- What is made so is read: a text whose marks make a tree has that tree.
-abbrev pub IsRead : Type 0
-IsRead = (name text : List ℕ) (made : List Mark) (last : ℕ) (tree : List Node) → marks_in (length text) text ≡ map read made → Makes name 1 made last tree
-    → conf_of name text ≡ Ok tree
+-- A text between double quotes.
+unfoldable pub in_double : List ℕ → List ℕ
+in_double [] = []
+in_double (c ∷ text) = double_octet c ++ in_double text
+
+-- A word with these quotes and this text.
+abbrev pub word : Quote → List ℕ → Word
+word quote text = record { quote = quote; text = text }
+
+-- What is written in single quotes so is read: each text without a newline, whatever follows it.
+abbrev pub ReadsSingle : Type 0
+ReadsSingle = (growth : Growth) (text rest : List ℕ) → lacks 10 text ≡ true
+    → word_at growth (39 ∷ (in_single text ++ 39 ∷ rest)) ≡ Ok (word Single text, rest)
+
+-- What is written in double quotes so is read: each text without a `$`, which could begin a variable.
+abbrev pub ReadsDouble : Type 0
+ReadsDouble = (growth : Growth) (text rest : List ℕ) → lacks 36 text ≡ true
+    → word_at growth (34 ∷ (in_double text ++ 34 ∷ rest)) ≡ Ok (word Double text, rest)

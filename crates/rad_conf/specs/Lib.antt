@@ -1,8 +1,13 @@
+pub mod Lines
 pub mod Signs
 pub mod Tree
+pub mod Places
+pub mod Variables
 pub mod Words
+pub mod Conditions
 pub mod Marks
 pub mod Answers
 pub mod Growth
+pub mod Includes
 pub mod Conf
 pub mod Grammar

@@ -1,105 +1,127 @@
--- A text as a list of marks: passed signs, line ends, closing braces, whole items and heads of blocks. After the manual page radiusd.conf(5).
-use Rattle.std.specs.Prelude.{◌≡◌, ℕ, zero, suc, List, [], ◌∷◌, take, drop, slice_index, ◌==◌, Some, None, Result, Ok, Err, if◌then◌else◌}
+-- The mark at the front of a text: passed signs, line ends, closing braces, whole items, heads of blocks and includes. After the
+-- manual page radiusd.conf(5).
+use Rattle.std.specs.Prelude.{ℕ, Bool, true, false, ◌&&◌, ◌||◌, ◌==◌, List, [], ◌∷◌, take, drop, Option, Some, None, Result, Ok, Err, codes, if◌then◌else◌}
+use Rattle.std.specs.Str.{bytes_eq, str_eq_ignore_ascii_case}
+use Rattle.rad_text.specs.Read.{◌>>=◌}
+use Rattle.rad_text.specs.Blanks.{after_blanks}
 use Rattle.rad_conf.specs.declared.sign.Sign.{Sign}
 use Rattle.rad_conf.specs.declared.sign.Sign.TheVariants as sign
 use Rattle.rad_conf.specs.declared.fault.Wrong.{Wrong}
-use Rattle.rad_conf.specs.declared.fault.Wrong.TheVariants.{Stray, NotBuilt}
-use Rattle.rad_conf.specs.declared.fault.MarkError.{MarkError}
-use Rattle.rad_conf.specs.declared.fault.MarkError.TheVariants as errors
+use Rattle.rad_conf.specs.declared.fault.Wrong.TheVariants.{Stray}
+use Rattle.rad_conf.specs.declared.tree.Quote.{Quote}
+use Rattle.rad_conf.specs.declared.tree.Quote.TheVariants.{Bare, Single, Double}
 use Rattle.rad_conf.specs.declared.tree.Word.{Word}
 use Rattle.rad_conf.specs.declared.tree.Item.{Item}
 use Rattle.rad_conf.specs.declared.tree.Item.TheVariants as item
 use Rattle.rad_conf.specs.declared.mark.Mark.{Mark}
 use Rattle.rad_conf.specs.declared.mark.Mark.TheVariants as mark
-use Rattle.rad_conf.specs.Signs.{sign_at, is_open, ends_item, wrong_of}
-use Rattle.rad_conf.specs.Words.{word_at, after_blanks, comment_at, is_condition}
+use Rattle.rad_conf.specs.declared.item.Keyword.{Keyword}
+use Rattle.rad_conf.specs.declared.item.Keyword.TheVariants as keyword
+use Rattle.rad_conf.specs.declared.growth.Growth.{Growth}
+use Rattle.rad_conf.specs.Signs.{sign_at, is_open, ends_item}
+use Rattle.rad_conf.specs.Words.{bare_text, bare_len, word_at, after_comment, is_condition}
+use Rattle.rad_conf.specs.Conditions.{condition_at}
 
--- One reading after another, up to the first that is wrong.
-infixl 10 ◌>>=◌
-abbrev pub ◌>>=◌ : {A B : Type 0} → Result A Wrong → (A → Result B Wrong) → Result B Wrong
-(Ok x) >>= f = f x
-(Err e) >>= f = Err e
+-- A bare word of this text.
+abbrev pub bare : List ℕ → Word
+bare text = record { quote = Bare; text = text }
 
--- What a function returned, seen by view, is what reading gives, unless memory ran out.
-abbrev pub Fails : {Y : Type 0} → MarkError → Result Y Wrong → Type 0
-Fails errors.NoMemory read = Unit {0}
-Fails (errors.Wrong wrong) read = read ≡ Err wrong
+-- Behind the right word of a pair, and behind the path of an include, the item ends.
+abbrev pub ended_at : Mark → List ℕ → Result (Mark × List ℕ) Wrong
+ended_at whole text = if ends_item (sign_at text) then Ok (whole, text) else Err Stray
 
--- The same of a value too.
-abbrev pub Gives : {X Y : Type 0} → (X → Y) → Result X MarkError → Result Y Wrong → Type 0
-Gives view (Ok x) read = read ≡ Ok (view x)
-Gives view (Err e) read = Fails e read
-
--- Behind the right word of a pair the item ends.
-abbrev pub ended_at : Item → List ℕ → Result (Mark × List ℕ) Wrong
-ended_at whole text = if ends_item (sign_at text) then Ok (mark.Whole whole, text) else Err (wrong_of (sign_at text))
+-- Behind these operators the right word may be missing.
+unfoldable pub stands_alone : List ℕ → Bool
+stands_alone operator = bytes_eq operator (codes "=*") || bytes_eq operator (codes "!*")
 
 -- A pair from behind its operator on.
-unfoldable pub pair_at : Word → List ℕ → List ℕ → Result (Mark × List ℕ) Wrong
-pair_at left operator text = do
-  right ← word_at (after_blanks text)
-  ended_at (item.Pair left operator right.0) (after_blanks right.1)
+unfoldable pub pair_at : Growth → Word → List ℕ → List ℕ → Result (Mark × List ℕ) Wrong
+pair_at growth left operator text =
+    if stands_alone operator && ends_item (sign_at (after_blanks text))
+    then Ok (mark.Whole (item.Pair left operator (bare [])), after_blanks text)
+    else word_at growth (after_blanks text) >>= (λ (right : Word × List ℕ). ended_at (mark.Whole (item.Pair left operator right.0)) (after_blanks right.1))
 
 -- Behind a block's name stands its brace.
-abbrev pub opened_at : Word → Word → List ℕ → Result (Mark × List ℕ) Wrong
-opened_at kind name text = if is_open (sign_at text) then Ok (mark.Opens kind (Some name), drop 1 text) else Err (wrong_of (sign_at text))
+abbrev pub opened_at : Word → Word → ℕ → List ℕ → Result (Mark × List ℕ) Wrong
+opened_at kind name lines text = if is_open (sign_at text) then Ok (mark.Opens kind (Some name) lines, drop 1 text) else Err Stray
 
 -- A block from its name on.
-unfoldable pub block_at : Word → List ℕ → Result (Mark × List ℕ) Wrong
-block_at kind text = do
-  name ← word_at text
-  opened_at kind name.0 (after_blanks name.1)
+unfoldable pub block_at : Growth → Word → List ℕ → Result (Mark × List ℕ) Wrong
+block_at growth kind text = word_at growth text >>= (λ (name : Word × List ℕ). opened_at kind name.0 0 (after_blanks name.1))
+
+-- A name alone is a bare word.
+abbrev pub named : Word → Quote → List ℕ → Result (Mark × List ℕ) Wrong
+named first Bare text = Ok (mark.Whole (item.Name first), text)
+named first Single text = Err Stray
+named first Double text = Err Stray
 
 -- An item from behind its first word on: a pair, a block with or without a name, or a name alone.
-abbrev pub item_by : Sign → Word → List ℕ → Result (Mark × List ℕ) Wrong
-item_by sign.End first text = Ok (mark.Whole (item.Name first), text)
-item_by sign.Blank first text = Err Stray
-item_by sign.LineEnd first text = Ok (mark.Whole (item.Name first), text)
-item_by sign.Comma first text = Ok (mark.Whole (item.Name first), text)
-item_by sign.Open first text = Ok (mark.Opens first None, drop 1 text)
-item_by sign.Close first text = Ok (mark.Whole (item.Name first), text)
-item_by sign.Comment first text = Ok (mark.Whole (item.Name first), text)
-item_by (sign.Operator len) first text = pair_at first (take len text) (drop len text)
-item_by sign.Unbuilt first text = Err NotBuilt
-item_by sign.Bare first text = block_at first text
+abbrev pub item_by : Growth → Sign → Word → List ℕ → Result (Mark × List ℕ) Wrong
+item_by growth sign.End first text = named first first.quote text
+item_by growth sign.Blank first text = Err Stray
+item_by growth sign.LineEnd first text = named first first.quote text
+item_by growth sign.Comma first text = named first first.quote text
+item_by growth sign.Open first text = Ok (mark.Opens first None 0, drop 1 text)
+item_by growth sign.Close first text = named first first.quote text
+item_by growth sign.Comment first text = named first first.quote text
+item_by growth sign.Double first text = block_at growth first text
+item_by growth sign.Single first text = block_at growth first text
+item_by growth (sign.Operator len) first text = pair_at growth first (take len text) (drop len text)
+item_by growth (sign.Bare len) first text = block_at growth first text
 
--- A condition begins with `(` and isn't built; without one `if` and `elsif` are no item.
-abbrev pub condition_at : List ℕ → Wrong
-condition_at text = if slice_index text 0 == 40 then NotBuilt else wrong_of (sign_at text)
+-- An item whose first word is no keyword.
+unfoldable pub plain_item : Growth → List ℕ → Result (Mark × List ℕ) Wrong
+plain_item growth text = word_at growth text >>= (λ (first : Word × List ℕ). item_by growth (sign_at (after_blanks first.1)) first.0 (after_blanks first.1))
+
+-- A block from behind its kind on whose name is a condition.
+unfoldable pub condition_item : Growth → List ℕ → List ℕ → Result (Mark × List ℕ) Wrong
+condition_item growth kind text = condition_at growth text >>= (λ (condition : List ℕ × ℕ × List ℕ). opened_at (bare kind) (bare condition.0) condition.1 (after_blanks condition.2))
+
+-- An include from behind its keyword on.
+unfoldable pub include_item : Growth → Bool → List ℕ → Result (Mark × List ℕ) Wrong
+include_item growth optional text = word_at growth text >>= (λ (path : Word × List ℕ). ended_at (mark.Includes optional path.0.text) (after_blanks path.1))
+
+-- What a bare word begins, as it is written. Keywords are read without regard to ASCII case.
+unfoldable pub keyword_of : List ℕ → Keyword
+keyword_of word =
+    if is_condition word then keyword.Condition
+    else (if str_eq_ignore_ascii_case word (codes "$INCLUDE") then keyword.Include
+    else (if str_eq_ignore_ascii_case word (codes "$-INCLUDE") then keyword.TryInclude
+    else keyword.Plain))
+
+abbrev pub item_of : Growth → Keyword → List ℕ → Result (Mark × List ℕ) Wrong
+item_of growth keyword.Condition text = condition_item growth (bare_text text) (after_blanks (drop (bare_len 0 text) text))
+item_of growth keyword.Include text = include_item growth false (after_blanks (drop (bare_len 0 text) text))
+item_of growth keyword.TryInclude text = include_item growth true (after_blanks (drop (bare_len 0 text) text))
+item_of growth keyword.Plain text = plain_item growth text
 
 -- An item that isn't a block, up to its end, or a block up to its opening brace.
-unfoldable pub item_at : List ℕ → Result (Mark × List ℕ) Wrong
-item_at text = do
-  first ← word_at text
-  if is_condition first.0.text
-      then Err (condition_at (after_blanks first.1))
-      else item_by (sign_at (after_blanks first.1)) first.0 (after_blanks first.1)
+unfoldable pub item_at : Growth → List ℕ → Result (Mark × List ℕ) Wrong
+item_at growth text = item_of growth (keyword_of (bare_text text)) text
 
 -- The mark of a sign at the front of a text.
-abbrev pub mark_by : Sign → List ℕ → Result (Mark × List ℕ) Wrong
-mark_by sign.End text = item_at text
-mark_by sign.Blank text = Ok (mark.Passed, drop 1 text)
-mark_by sign.LineEnd text = Ok (mark.NextLine, drop 1 text)
-mark_by sign.Comma text = Ok (mark.Passed, drop 1 text)
-mark_by sign.Open text = item_at text
-mark_by sign.Close text = Ok (mark.Closes, drop 1 text)
-mark_by sign.Comment text = do
-  rest ← comment_at (drop 1 text)
-  Ok (mark.Passed, rest)
-mark_by (sign.Operator len) text = item_at text
-mark_by sign.Unbuilt text = item_at text
-mark_by sign.Bare text = item_at text
+abbrev pub mark_by : Growth → Sign → List ℕ → Result (Mark × List ℕ) Wrong
+mark_by growth sign.End text = item_at growth text
+mark_by growth sign.Blank text = Ok (mark.Passed, drop 1 text)
+mark_by growth sign.LineEnd text = Ok (mark.NextLine, drop 1 text)
+mark_by growth sign.Comma text = Ok (mark.Passed, drop 1 text)
+mark_by growth sign.Open text = item_at growth text
+mark_by growth sign.Close text = Ok (mark.Closes, drop 1 text)
+mark_by growth sign.Comment text = Ok (mark.Passed, after_comment (drop 1 text))
+mark_by growth sign.Double text = item_at growth text
+mark_by growth sign.Single text = item_at growth text
+mark_by growth (sign.Operator len) text = item_at growth text
+mark_by growth (sign.Bare len) text = item_at growth text
 
 -- The mark at the front of a text, and what follows it.
-unfoldable pub mark_at : List ℕ → Result (Mark × List ℕ) Wrong
-mark_at text = mark_by (sign_at text) text
+unfoldable pub mark_at : Growth → List ℕ → Result (Mark × List ℕ) Wrong
+mark_at growth text = mark_by growth (sign_at text) text
 
--- The marks of a text in order. The first that can't be read is an element too, and the last.
--- Each takes an octet at least, so that as many turns as the text has octets are enough; where they ran out, nothing would be lost unsaid.
-unfoldable pub marks_in : ℕ → List ℕ → List (Result Mark Wrong)
-marks_in turns [] = []
-marks_in zero (c ∷ rest) = Err Stray ∷ []
-marks_in (suc turns) (c ∷ rest) = elim (mark_at (c ∷ rest)) [
-  | Ok read ↦ Ok read.0 ∷ marks_in turns read.1
-  | Err wrong ↦ Err wrong ∷ []
-]
+-- How many lines end in a mark.
+abbrev pub lines_in : Mark → ℕ
+lines_in mark.Passed = 0
+lines_in mark.NextLine = 1
+lines_in mark.Closes = 0
+lines_in (mark.Whole whole) = 0
+lines_in (mark.Opens kind name lines) = lines
+lines_in (mark.Includes optional path) = 0

@@ -1,31 +1,62 @@
 -- What stands at the front of a text, by its first octets: the one place that knows the spelling of signs.
--- After the manual page radiusd.conf(5); which signs are built is this project's own.
-use Rattle.std.specs.Prelude.{ℕ, Bool, true, false, ◌||◌, ◌&&◌, ◌==◌, List, [], ◌∷◌, slice_index, if◌then◌else◌}
+-- After the manual page radiusd.conf(5).
+use Rattle.std.specs.Prelude.{ℕ, ◌+◌, ◌-◌, Bool, true, false, ◌||◌, ◌&&◌, ◌==◌, List, [], ◌∷◌, drop, slice_index, Option, Some, None, if◌then◌else◌}
 use Rattle.rad_conf.specs.declared.sign.Sign.{Sign}
-use Rattle.rad_conf.specs.declared.sign.Sign.TheVariants.{End, Blank, LineEnd, Comma, Open, Close, Comment, Operator, Unbuilt, Bare}
-use Rattle.rad_conf.specs.declared.fault.Wrong.{Wrong}
-use Rattle.rad_conf.specs.declared.fault.Wrong.TheVariants.{Stray, NotBuilt}
+use Rattle.rad_conf.specs.declared.sign.Sign.TheVariants.{End, Blank, LineEnd, Comma, Open, Close, Comment, Double, Single, Operator, Bare}
 
--- Quotes, `$` and `\` begin what isn't built, and so do `<` and `>`, which are operators alone or before `=`.
-unfoldable pub is_unbuilt_alone : ℕ → Bool
-is_unbuilt_alone c = c == 34 || c == 39 || c == 36 || c == 92 || c == 60 || c == 62
+-- The operators of two octets: `:=` `+=` `-=` `==` `!=` `<=` `>=` `=~` `!~` `=*` `!*`.
+unfoldable pub is_operator_pair : ℕ → ℕ → Bool
+is_operator_pair c d =
+    (d == 61 && (c == 58 || c == 43 || c == 45 || c == 61 || c == 33 || c == 60 || c == 62)) || ((d == 126 || d == 42) && (c == 61 || c == 33))
 
--- Of two octets: the operators `+=` `-=` `!=` `==` `=~` `!~` `=*` `!*`, and `%{`.
-unfoldable pub is_unbuilt_pair : ℕ → ℕ → Bool
-is_unbuilt_pair c d =
-    ((c == 43 || c == 45 || c == 33 || c == 61) && d == 61) || ((c == 61 || c == 33) && (d == 126 || d == 42)) || (c == 37 && d == 123)
+-- The operators of one octet: `=` `<` `>`.
+unfoldable pub is_operator_octet : ℕ → Bool
+is_operator_octet c = c == 61 || c == 60 || c == 62
+
+-- How many octets the longest operator that stands here has, by its octet and the next; none where no operator stands here.
+unfoldable pub operator_at : ℕ → ℕ → ℕ
+operator_at c d = if is_operator_pair c d then 2 else (if is_operator_octet c then 1 else 0)
+
+-- How many braces are open behind an octet.
+unfoldable pub braces_after : ℕ → ℕ → ℕ
+braces_after c depth = if c == 123 then depth + 1 else (if c == 125 then depth - 1 else depth)
+
+-- How many octets stand before the brace that closes, on this line: with so many braces open inside, and behind so many octets.
+unfoldable pub inside_from : ℕ → ℕ → List ℕ → Option ℕ
+inside_from depth len [] = None
+inside_from depth len (c ∷ rest) =
+    if c == 10 then None
+    else (if c == 125 && depth == 0 then Some len
+    else inside_from (braces_after c depth) (len + 1) rest)
+
+-- How many octets stand between the braces of a `{..}` at the front, on one line and with matching braces.
+unfoldable pub braces_at : List ℕ → Option ℕ
+braces_at text = if slice_index text 0 == 123 then inside_from 0 0 (drop 1 text) else None
+
+-- How many octets stand between the braces of a `${..}` at the front.
+unfoldable pub variable_at : List ℕ → Option ℕ
+variable_at text = if slice_index text 0 == 36 then braces_at (drop 1 text) else None
 
 -- `[#]`
 unfoldable pub is_count : ℕ → ℕ → ℕ → Bool
 is_count c d e = c == 91 && d == 35 && e == 93
 
--- An octet that is no sign by itself: it may begin an operator or what isn't built, else it belongs to a bare word.
+abbrev pub group_len : Option ℕ → ℕ
+group_len None = 1
+group_len (Some len) = len + 3
+
+-- How many octets of a bare word begin with an octet that is no sign by itself: all of `[#]`, of `${..}` and of `%{..}`, else the octet.
+unfoldable pub bare_at : ℕ → List ℕ → ℕ
+bare_at c rest =
+    if is_count c (slice_index rest 0) (slice_index rest 1) then 3
+    else (if c == 36 || c == 37 then group_len (braces_at rest) else 1)
+
+-- An octet that is no sign by itself: it begins an operator, of those that stand there the longest, or belongs to a bare word.
 unfoldable pub longer_sign : ℕ → List ℕ → Sign
 longer_sign c rest =
-    if is_unbuilt_alone c || is_unbuilt_pair c (slice_index rest 0) || is_count c (slice_index rest 0) (slice_index rest 1) then Unbuilt
-    else (if c == 61 then Operator 1 else (if c == 58 && slice_index rest 0 == 61 then Operator 2 else Bare))
+    if operator_at c (slice_index rest 0) == 0 then Bare (bare_at c rest) else Operator (operator_at c (slice_index rest 0))
 
--- The sign at the front of a text. Of the operators the longest that stands there counts, so `=` is one only where none of `==`, `=~` and `=*` stands.
+-- The sign at the front of a text.
 unfoldable pub sign_at : List ℕ → Sign
 sign_at [] = End
 sign_at (c ∷ rest) =
@@ -35,20 +66,23 @@ sign_at (c ∷ rest) =
     else (if c == 123 then Open
     else (if c == 125 then Close
     else (if c == 35 then Comment
-    else longer_sign c rest)))))
+    else (if c == 34 then Double
+    else (if c == 39 then Single
+    else longer_sign c rest)))))))
 
--- The sign of an octet that belongs to a bare word.
-abbrev pub is_bare : Sign → Bool
-is_bare End = false
-is_bare Blank = false
-is_bare LineEnd = false
-is_bare Comma = false
-is_bare Open = false
-is_bare Close = false
-is_bare Comment = false
-is_bare (Operator len) = false
-is_bare Unbuilt = false
-is_bare Bare = true
+-- How many octets of a bare word a sign has.
+abbrev pub bare_octets : Sign → ℕ
+bare_octets End = 0
+bare_octets Blank = 0
+bare_octets LineEnd = 0
+bare_octets Comma = 0
+bare_octets Open = 0
+bare_octets Close = 0
+bare_octets Comment = 0
+bare_octets Double = 0
+bare_octets Single = 0
+bare_octets (Operator len) = 0
+bare_octets (Bare len) = len
 
 -- The brace that opens a block.
 abbrev pub is_open : Sign → Bool
@@ -59,9 +93,10 @@ is_open Comma = false
 is_open Open = true
 is_open Close = false
 is_open Comment = false
+is_open Double = false
+is_open Single = false
 is_open (Operator len) = false
-is_open Unbuilt = false
-is_open Bare = false
+is_open (Bare len) = false
 
 -- An item ends at a line's end, a comma, a closing brace, a comment and the text's end.
 abbrev pub ends_item : Sign → Bool
@@ -72,32 +107,21 @@ ends_item Comma = true
 ends_item Open = false
 ends_item Close = true
 ends_item Comment = true
+ends_item Double = false
+ends_item Single = false
 ends_item (Operator len) = false
-ends_item Unbuilt = false
-ends_item Bare = false
+ends_item (Bare len) = false
 
--- What is wrong where another sign should stand: one that isn't built is named so wherever it is met.
-abbrev pub wrong_of : Sign → Wrong
-wrong_of End = Stray
-wrong_of Blank = Stray
-wrong_of LineEnd = Stray
-wrong_of Comma = Stray
-wrong_of Open = Stray
-wrong_of Close = Stray
-wrong_of Comment = Stray
-wrong_of (Operator len) = Stray
-wrong_of Unbuilt = NotBuilt
-wrong_of Bare = Stray
-
--- How many octets of a text are an operator.
-abbrev pub operator_len : Sign → ℕ
-operator_len End = 0
-operator_len Blank = 0
-operator_len LineEnd = 0
-operator_len Comma = 0
-operator_len Open = 0
-operator_len Close = 0
-operator_len Comment = 0
-operator_len (Operator len) = len
-operator_len Unbuilt = 0
-operator_len Bare = 0
+-- How many octets of a text are a sign of more than one octet.
+abbrev pub sign_len : Sign → ℕ
+sign_len End = 0
+sign_len Blank = 0
+sign_len LineEnd = 0
+sign_len Comma = 0
+sign_len Open = 0
+sign_len Close = 0
+sign_len Comment = 0
+sign_len Double = 0
+sign_len Single = 0
+sign_len (Operator len) = len
+sign_len (Bare len) = len

@@ -15,15 +15,21 @@ pub enum ConfFault {
     /// A closing brace too many, or an item of no form.
     #[error("Stray")]
     Stray(Place),
-    /// The file isn't there. The line is 0.
+    /// A quote that isn't closed on its line.
+    #[error("BadQuote")]
+    BadQuote(Place),
+    /// A variable that no earlier pair has.
+    #[error("NoVariable")]
+    NoVariable(Place),
+    /// The seventeenth include within one another, by its own line.
+    #[error("TooDeep")]
+    TooDeep(Place),
+    /// A file that isn't there, by the line that includes it, or by its own line 0.
     #[error("Missing")]
     Missing(Place),
-    /// The file has more than 4,194,304 octets. The line is 0.
+    /// The files have more than 4,194,304 octets together. The line is 0 of the file that passes this.
     #[error("TooLong")]
     TooLong(Place),
-    /// A sign or an operator that isn't built.
-    #[error("NotBuilt")]
-    NotBuilt(Place),
     #[error("ReadFault")]
     ReadFault,
     #[error("NoMemory")]
@@ -54,22 +60,6 @@ impl From<AllocError> for ConfFault {
 #[derive(Clone, Copy, Debug, PartialEq, Eq)]
 pub enum Wrong {
     Stray,
-    NotBuilt,
-}
-
-/// Why the next mark of a text could not be read.
-#[derive(Clone, Copy, Debug, PartialEq, Eq)]
-pub enum MarkError {
-    NoMemory,
-    Wrong(Wrong),
-}
-
-impl From<NoMemory> for MarkError {
-    ghost use Rattle.rad_conf.specs.declared.fault.MarkError.TheVariants as errors;
-
-    ghost from_gives = { λ _ e. e ≡ errors.NoMemory };
-
-    fn from(_e: NoMemory) -> MarkError {
-        MarkError::NoMemory
-    }
+    BadQuote,
+    NoVariable,
 }

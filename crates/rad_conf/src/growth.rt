@@ -1,20 +1,19 @@
 //! A tree that grows over the marks of its text.
 
-ghost use Rattle.std.specs.Prelude.{◌≡◌, ℕ, ◌+◌, ◌-◌, ◌^◌, ◌≤◌, ◌<◌, [], ◌∷◌, List, Result, IfOk};
-ghost use Rattle.rad_conf.specs.declared.fault.Wrong.{Wrong};
-ghost use Rattle.rad_conf.specs.declared.mark.Mark.{Mark};
-ghost use Rattle.rad_conf.specs.declared.mark.Mark.TheVariants as mark;
-ghost use Rattle.rad_conf.specs.declared.tree.Node.{Node};
-ghost use Rattle.rad_conf.specs.Answers.{IsTextFault, IsTextAnswer, Continues};
-ghost use Rattle.rad_conf.specs.Growth.{place_at, fault_of, growth_of};
+ghost use Rattle.std.specs.Prelude.{◌≡◌, ◌+◌, ◌<◌, ◌≤◌, ◌^◌, length, reverse, OnOk};
+ghost use Rattle.rad_conf.specs.Answers.{IsTextFault, Steps};
+ghost use Rattle.rad_conf.specs.Growth.{fault_of, closes, ended, with_item, with_block, counted, begun, resumed, first_growth};
 
 use crate::fault::{ConfFault, Wrong};
-use crate::mark::Mark;
 use crate::tree::{Branch, Conf, Item, Node, Word};
-use rad_outside::{NoMemory, Octets, Place};
+use rad_outside::{NoMemory, Place};
+use rad_text::place_at;
 use sqlite_items::Items;
 use std::alloc::Global;
 use std::mem;
+
+/// The octets that the files have at most together: 4 MiB.
+const LONGEST: usize = 4_194_304;
 
 /// A block that is open, and the nodes that stand before it in its own block.
 #[derive(Drop)]
@@ -25,60 +24,73 @@ pub struct Open {
     pub before: Branch,
 }
 
-/// A tree that grows: the line that is read, the blocks that are open, the innermost last,
-/// and the nodes of the innermost so far.
+/// A tree that grows: the line that is read, the blocks that are open, the innermost last, and the
+/// nodes of the innermost so far; how many of the blocks were opened outside the file that is read;
+/// and how many octets the files have so far.
 #[derive(Drop)]
 pub struct Growth {
     pub line: u32,
     pub opens: Items<Open>,
     pub nodes: Branch,
+    pub outside: usize,
+    pub octets: usize,
 }
 
-pub fn place_at(alloc: Global, file: &[u8], line: u32) -> Result<Place, NoMemory>
-    ensures { IfOk result (λ place. place ≡ place_at file.now line) }
+/// The fault of what is wrong at a place.
+fn fault_at(place: Place, wrong: Wrong) -> ConfFault
+    ensures { result ≡ fault_of place.file place.line wrong }
 {
-    Ok(Place {
-        file: Octets::of(alloc, file)?,
-        line,
-    })
+    match wrong {
+        Wrong::Stray => ConfFault::Stray(place),
+        Wrong::BadQuote => ConfFault::BadQuote(place),
+        Wrong::NoVariable => ConfFault::NoVariable(place),
+    }
 }
 
 impl Growth {
-    /// Nothing so far, on the first line.
+    /// Nothing so far.
     pub fn new(alloc: Global) -> Growth
-        ensures line { result.line ≡ 1 }
-        ensures opens { result.opens ≡ [] }
-        ensures nodes { result.nodes ≡ [] }
+        ensures { result ≡ first_growth }
     {
         Growth {
             line: 1,
             opens: Items::new(alloc),
             nodes: Branch::new(alloc),
+            outside: 0,
+            octets: 0,
         }
     }
 
     /// The fault of what is wrong on the line that is read, or want of memory for its place.
     pub fn fault(&self, alloc: Global, file: &[u8], wrong: Wrong) -> ConfFault
-        ensures { IsTextFault {Y = List Node} (Err (fault_of file.now self.now.line wrong)) result }
+        ensures { IsTextFault (fault_of file.now self.now.line wrong) result }
     {
-        match (place_at(alloc, file, self.line), wrong) {
-            (Err(NoMemory), _) => ConfFault::NoMemory,
-            (Ok(place), Wrong::Stray) => ConfFault::Stray(place),
-            (Ok(place), Wrong::NotBuilt) => ConfFault::NotBuilt(place),
+        match place_at(alloc, file, self.line) {
+            Err(NoMemory) => ConfFault::NoMemory,
+            Ok(place) => fault_at(place, wrong),
         }
     }
 
-    /// Begins a block.
-    #[tactic(auto, using(crate::proofs::Opens::reverse_push), unfolding(crate::specs::Growth::grown))]
-    fn begin(
+    /// Adds a whole item.
+    pub fn add(&mut self, alloc: Global, file: &[u8], item: Item) -> Result<(), NoMemory>
+        ensures { OnOk result (self.new ≡ with_item file.now item self.old) }
+    {
+        let place = place_at(alloc, file, self.line)?;
+        self.nodes.push(Node { place, item })?;
+        Ok(())
+    }
+
+    /// Begins a block, in whose head so many lines end.
+    pub fn begin(
         &mut self,
         alloc: Global,
         file: &[u8],
         kind: Word,
         name: Option<Word>,
-    ) -> Result<(), ConfFault>
-        ensures exact { (more : List (Result Mark Wrong)) → Continues (growth_of file.now self.old (Ok (mark.Opens kind name) ∷ more)) (growth_of file.now self.new more) result }
-        ensures line { self.new.line ≡ self.old.line }
+        lines: usize,
+    ) -> Result<(), NoMemory>
+        requires { self.old.line + lines < 2 ^ 32 }
+        ensures { OnOk result (self.new ≡ with_block file.now kind name lines self.old) }
     {
         let place = place_at(alloc, file, self.line)?;
         let before = mem::replace(&mut self.nodes, Branch::new(alloc));
@@ -88,15 +100,18 @@ impl Growth {
             name,
             before,
         })?;
+        self.line += lines as u32;
         Ok(())
     }
 
-    /// Ends the innermost block.
-    #[tactic(auto, using(crate::proofs::Opens::reverse_push), unfolding(crate::specs::Growth::grown))]
-    fn close(&mut self, alloc: Global, file: &[u8]) -> Result<(), ConfFault>
-        ensures exact { (more : List (Result Mark Wrong)) → Continues (growth_of file.now self.old (Ok mark.Closes ∷ more)) (growth_of file.now self.new more) result }
-        ensures line { self.new.line ≡ self.old.line }
+    /// Ends the innermost block, where the file that is read has opened one.
+    #[tactic(auto, using(crate::proofs::Opens::reverse_push, crate::proofs::Opens::turned))]
+    pub fn close(&mut self, alloc: Global, file: &[u8]) -> Result<(), ConfFault>
+        ensures { Steps (closes file.now self.old (reverse self.old.opens)) self.new result }
     {
+        if self.opens.len() <= self.outside {
+            return Err(self.fault(alloc, file, Wrong::Stray));
+        }
         let Some(block) = self.opens.pop() else {
             return Err(self.fault(alloc, file, Wrong::Stray));
         };
@@ -112,42 +127,62 @@ impl Growth {
         Ok(())
     }
 
-    /// Takes the next mark.
-    #[tactic(auto, unfolding(crate::specs::Growth::grown))]
-    pub fn take(&mut self, alloc: Global, file: &[u8], mark: Mark) -> Result<(), ConfFault>
-        requires { self.old.line < 2 ^ 32 - 1 }
-        ensures exact { (more : List (Result Mark Wrong)) → Continues (growth_of file.now self.old (Ok mark ∷ more)) (growth_of file.now self.new more) result }
-        ensures line { self.new.line ≤ self.old.line + 1 }
+    /// A file's end, where the file may have no block open.
+    #[tactic(auto, using(crate::proofs::Opens::reverse_push, crate::proofs::Opens::turned))]
+    pub fn end(&mut self) -> Result<(), ConfFault>
+        ensures { Steps (ended self.old) self.new result }
     {
-        match mark {
-            Mark::Passed => Ok(()),
-            Mark::NextLine => {
-                self.line += 1;
-                Ok(())
-            }
-            Mark::Closes => self.close(alloc, file),
-            Mark::Whole(item) => {
-                let place = place_at(alloc, file, self.line)?;
-                self.nodes.push(Node { place, item })?;
-                Ok(())
-            }
-            Mark::Opens(kind, name) => self.begin(alloc, file, kind, name),
+        if self.outside >= self.opens.len() {
+            return Ok(());
+        }
+        match self.opens.pop() {
+            Some(block) => Err(ConfFault::Unclosed(block.place)),
+            None => Ok(()),
         }
     }
 
-    /// The tree at the text's end.
-    #[tactic(auto, using(crate::proofs::Opens::reverse_push), unfolding(crate::specs::Growth::grown))]
-    pub fn finish(self) -> Result<Conf, ConfFault>
-        ensures { (file : List ℕ) → IsTextAnswer (growth_of file self []) result }
+    /// Counts the octets of one more file.
+    pub fn count(&mut self, alloc: Global, file: &[u8], text: &[u8]) -> Result<(), ConfFault>
+        ensures exact { Steps (counted file.now text.now self.old) self.new result }
+        ensures fits { OnOk result (length text.now ≤ 4194304) }
     {
-        let Growth {
-            line: _,
-            mut opens,
-            nodes,
-        } = self;
-        match opens.pop() {
-            Some(block) => Err(ConfFault::Unclosed(block.place)),
-            None => Ok(Conf::of(nodes)),
+        let octets = self.octets.saturating_add(text.len());
+        if octets > LONGEST {
+            return Err(ConfFault::TooLong(place_at(alloc, file, 0)?));
         }
+        self.octets = octets;
+        Ok(())
+    }
+
+    /// Another line begins.
+    pub fn next_line(&mut self)
+        requires { self.old.line + 1 < 2 ^ 32 }
+        ensures { self.new ≡ record self.old { line = self.old.line + 1 } }
+    {
+        self.line += 1;
+    }
+
+    /// A file begins, on its first line and inside the blocks that are open.
+    pub fn enter(&mut self)
+        ensures { self.new ≡ begun self.old }
+    {
+        self.line = 1;
+        self.outside = self.opens.len();
+    }
+
+    /// The file around it goes on, on this line and inside so many blocks.
+    pub fn leave(&mut self, line: u32, outside: usize)
+        ensures { self.new ≡ resumed line outside self.old }
+    {
+        self.line = line;
+        self.outside = outside;
+    }
+
+    /// The tree.
+    pub fn into_conf(self) -> Conf
+        ensures { result ≡ self.nodes }
+    {
+        let Growth { nodes, .. } = self;
+        Conf::of(nodes)
     }
 }

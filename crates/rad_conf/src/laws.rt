@@ -1,11 +1,11 @@
-//! The laws of the grammar: what a tree is made of, apart from how it is read.
+//! The laws of the grammar: how what is read is written, apart from how it is read.
 
-ghost use Rattle.rad_conf.specs.Grammar.{IsMade, IsRead};
+ghost use Rattle.rad_conf.specs.Grammar.{ReadsSingle, ReadsDouble};
 
-/// A text has the tree that its marks make, and no other. It does nothing when it runs.
-pub fn a_tree_is_what_its_marks_make()
-    // What is read is made so.
-    ensures found { IsMade }
-    // What is made so is read.
-    ensures only { IsRead }
+/// What is written between quotes is read back, whatever has been read before. It does nothing when it runs.
+pub fn quoted_words_are_read_back()
+    // Each text without a newline, between single quotes.
+    ensures single { ReadsSingle }
+    // Each text without a `$`, between double quotes.
+    ensures double { ReadsDouble }
 {}

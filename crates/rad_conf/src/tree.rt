@@ -1,17 +1,25 @@
 //! The tree of a configuration.
 
-ghost use Rattle.std.specs.Prelude.{◌≡◌, [], ◌∷◌, ◌++◌, OnOk, OnErr};
+ghost use Rattle.std.specs.Prelude.{◌≡◌, [], ◌∷◌, ◌++◌, slice_get, OnOk, OnErr};
+ghost use Rattle.std.specs.Option.{option_copied, option_and_then};
+ghost use Rattle.rad_conf.specs.Places.{key_of, pair_key, last_place};
 ghost use Rattle.rad_conf.specs.Tree.{body_of};
 
 use rad_outside::{NoMemory, Octets, Place};
 use sqlite_items::Items;
 use std::alloc::Global;
+use std::collections::BTreeMap;
 use std::marker::Model;
 
 /// How a word was written.
 #[derive(Clone, Copy, Debug, PartialEq, Eq)]
 pub enum Quote {
+    /// Without quotes.
     Bare,
+    /// In single quotes.
+    Single,
+    /// In double quotes.
+    Double,
 }
 
 /// A word, and how it was written.
@@ -69,15 +77,45 @@ fn take_apart(nodes: NodeList) {
     }
 }
 
-/// A list of nodes that grows, and is dropped in a loop.
+/// The key of a name.
+#[tactic(auto, unfolding(crate::specs::Places::octets_key, crate::specs::Places::key_with))]
+pub fn key_of(name: &[u8]) -> u64
+    ensures { result ≡ key_of name.now }
+{
+    let mut key = 0u64;
+    for octet in name {
+        key = key
+            .wrapping_mul(1_099_511_628_211)
+            .wrapping_add(u64::from(*octet));
+    }
+    key
+}
+
+/// The key of a pair's name.
+fn pair_key(node: &Node) -> Option<u64>
+    ensures { result ≡ pair_key node.now }
+{
+    match &node.item {
+        Item::Pair(left, _, _) => Some(key_of(left.text.as_slice())),
+        Item::Name(_) => None,
+        Item::Block(_, _, _) => None,
+    }
+}
+
+/// A list of nodes that grows, and is dropped in a loop. The last pair of a name is found in it by the
+/// name's key.
 pub struct Branch {
     nodes: Vec<Node>,
+    places: BTreeMap<u64, usize>,
 }
 
 impl Model for Branch {
-    ghost use Rattle.std.specs.Prelude.{List};
+    ghost use Rattle.std.specs.Prelude.{◌≡◌, ℕ, List};
+    ghost use Rattle.std.specs.Ordering.{nat_cmp};
+    ghost use Rattle.std.specs.BTreeMap.{get};
     ghost use Rattle.rad_conf.specs.declared.tree.Node.{Node};
     ghost use Rattle.rad_conf.specs.contracts.tree.Node as node;
+    ghost use Rattle.rad_conf.specs.Places.{last_place};
     ghost use Rattle.std.specs.Coded.{codes};
 
     ghost Value = { List Node };
@@ -85,41 +123,70 @@ impl Model for Branch {
     ghost coded = { Prim.hlevel (codes, node.the_row.coded) };
 
     ghost view = { λ b. b.nodes.items };
+
+    ghost invariant = { λ b. (key : ℕ) → get nat_cmp b.places key ≡ last_place key b.nodes.items };
 }
 
 impl Drop for Branch {
     fn drop(self) {
-        let Branch { nodes } = self;
+        let Branch { nodes, places: _ } = self;
         take_apart(Items::from_vec(nodes));
     }
 }
 
 impl Branch {
+    #[tactic(auto, unfolding(crate::specs::Places::last_place))]
     pub fn new(alloc: Global) -> Branch
         ensures { result ≡ [] }
     {
         Branch {
             nodes: Vec::new(alloc),
+            places: BTreeMap::new(alloc),
         }
     }
 
     pub fn into_list(self) -> NodeList
         ensures { result ≡ self }
     {
-        let Branch { nodes } = self;
+        let Branch { nodes, places: _ } = self;
         Items::from_vec(nodes)
+    }
+
+    pub fn as_slice(&self) -> &[Node]
+        ensures { result.now ≡ self.now }
+    {
+        self.nodes.as_slice()
+    }
+
+    /// The last node that is a pair whose name has this key, where there is one.
+    pub fn last_of(&self, key: u64) -> Option<&Node>
+        ensures { option_copied result ≡ option_and_then (slice_get self.now) (last_place key self.now) }
+    {
+        match self.places.get(&key) {
+            None => None,
+            Some(place) => self.nodes.get(*place),
+        }
     }
 
     pub fn push(&mut self, node: Node) -> Result<(), NoMemory>
         ensures ok { OnOk result (self.new ≡ self.old ++ node ∷ []) }
         ensures err { OnErr result (self.new ≡ self.old) }
     {
-        match self.nodes.push(node) {
-            Ok(()) => Ok(()),
-            Err(refused) => {
-                if let Some(body) = body_of(refused.value) {
-                    take_apart(body);
-                }
+        let key = pair_key(&node);
+        let place = self.nodes.len();
+        if let Err(refused) = self.nodes.push(node) {
+            if let Some(body) = body_of(refused.value) {
+                take_apart(body);
+            }
+            return Err(NoMemory);
+        }
+        let Some(key) = key else {
+            return Ok(());
+        };
+        match self.places.insert(key, place) {
+            Ok(_) => Ok(()),
+            Err(_) => {
+                let _node = self.nodes.pop();
                 Err(NoMemory)
             }
         }

@@ -100,6 +100,6 @@ dict_at sources = elim (octets_at (path_of sources.folder dict_name) sources.fil
 -- The site of the configuration in its folder. A fault of the file itself comes first, and then one of the dictionary.
 abbrev pub built : Sources → Result Site BuildFault
 built sources = do
-  nodes ← of_conf (conf_at conf_name (octets_at (path_of sources.folder conf_name) sources.files))
+  nodes ← of_conf (conf_at sources.folder conf_name sources.files)
   dict ← dict_at sources
   site_of sources dict nodes

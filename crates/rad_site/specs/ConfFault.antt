@@ -9,9 +9,11 @@ use Rattle.rad_site.specs.declared.fault.BuildFault.TheVariants as fault
 abbrev pub fault_of : ConfFault → BuildFault
 fault_of (conf.Unclosed place) = fault.Conf (conf.Unclosed place)
 fault_of (conf.Stray place) = fault.Conf (conf.Stray place)
+fault_of (conf.BadQuote place) = fault.Conf (conf.BadQuote place)
+fault_of (conf.NoVariable place) = fault.Conf (conf.NoVariable place)
+fault_of (conf.TooDeep place) = fault.Conf (conf.TooDeep place)
 fault_of (conf.Missing place) = fault.Conf (conf.Missing place)
 fault_of (conf.TooLong place) = fault.Conf (conf.TooLong place)
-fault_of (conf.NotBuilt place) = fault.Conf (conf.NotBuilt place)
 fault_of conf.ReadFault = fault.ReadFault
 fault_of conf.NoMemory = fault.NoMemory
 

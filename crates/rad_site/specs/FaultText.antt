@@ -27,9 +27,11 @@ memory_text = codes "memory"
 abbrev pub conf_fault_text : ConfFault → List ℕ
 conf_fault_text (conf.Unclosed place) = placed_text place (codes "Unclosed")
 conf_fault_text (conf.Stray place) = placed_text place (codes "Stray")
+conf_fault_text (conf.BadQuote place) = placed_text place (codes "BadQuote")
+conf_fault_text (conf.NoVariable place) = placed_text place (codes "NoVariable")
+conf_fault_text (conf.TooDeep place) = placed_text place (codes "TooDeep")
 conf_fault_text (conf.Missing place) = placed_text place (codes "Missing")
 conf_fault_text (conf.TooLong place) = placed_text place (codes "TooLong")
-conf_fault_text (conf.NotBuilt place) = placed_text place (codes "NotBuilt")
 conf_fault_text conf.ReadFault = read_fault_text
 conf_fault_text conf.NoMemory = memory_text
 

@@ -1,6 +1,9 @@
 -- The items of a configuration by their form. After the manual page radiusd.conf(5).
-use Rattle.std.specs.Prelude.{ℕ, Bool, false, ◌||◌, List, Option, Some, None, codes, if◌then◌else◌}
+use Rattle.std.specs.Prelude.{ℕ, Bool, true, false, not, ◌&&◌, ◌||◌, ◌==◌, List, [], ◌∷◌, slice_index, Option, Some, None, codes, if◌then◌else◌}
 use Rattle.std.specs.Str.{bytes_eq}
+use Rattle.rad_conf.specs.declared.tree.Quote.{Quote}
+use Rattle.rad_conf.specs.declared.tree.Quote.TheVariants.{Bare, Single, Double}
+use Rattle.rad_conf.specs.declared.tree.Word.{Word}
 use Rattle.rad_conf.specs.declared.tree.Node.{Node}
 use Rattle.rad_conf.specs.declared.tree.Item.{out-Item}
 use Rattle.rad_conf.specs.declared.tree.Item.TheOpen as level
@@ -8,6 +11,21 @@ use Rattle.rad_conf.specs.declared.tree.Item.TheOpen as level
 -- `=` and `:=`
 abbrev pub is_assignment : List ℕ → Bool
 is_assignment operator = bytes_eq operator (codes "=") || bytes_eq operator (codes ":=")
+
+-- Whether an expansion stands in a text: `%{`.
+unfoldable pub has_expansion : List ℕ → Bool
+has_expansion [] = false
+has_expansion (c ∷ rest) = if c == 37 && slice_index rest 0 == 123 then true else has_expansion rest
+
+-- A word without quotes.
+abbrev pub is_bare : Quote → Bool
+is_bare Bare = true
+is_bare Single = false
+is_bare Double = false
+
+-- A word that stands for its text: without quotes, and without an expansion.
+abbrev pub is_literal : Word → Bool
+is_literal word = is_bare word.quote && not (has_expansion word.text)
 
 -- The name and the value of an item `name = value` or `name := value`.
 abbrev pub setting_of : Node → Option (List ℕ × List ℕ)

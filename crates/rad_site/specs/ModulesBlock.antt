@@ -16,7 +16,7 @@ use Rattle.rad_site.specs.declared.build.modules.Modules.{Modules}
 use Rattle.rad_site.specs.declared.fault.BuildFault.{BuildFault}
 use Rattle.rad_site.specs.declared.fault.BuildFault.TheVariants as fault
 use Rattle.rad_site.specs.Nodes.{◌>>=◌, refused, needed, only, after_each}
-use Rattle.rad_site.specs.Items.{setting_of, plain_block}
+use Rattle.rad_site.specs.Items.{has_expansion, setting_of, plain_block}
 
 -- The path of a file that a setting names: below the site's folder, or as it stands where it begins with `/`.
 abbrev pub file_path : List ℕ → List ℕ → List ℕ
@@ -37,11 +37,11 @@ unfoldable pub users_at : Sources → Definitions → Place → List ℕ → Res
 users_at sources dict place name =
     if is_utf8 name then users_in dict place name (octets_at (file_path sources.folder name) sources.files) else refused place
 
--- The users of the setting `filename = NAME`.
+-- The users of the setting `filename = NAME`. Expansions in it aren't built.
 abbrev pub filename_at : Sources → Definitions → Node → Result (List Entry) BuildFault
 filename_at sources dict node = elim (setting_of node) [
   | None ↦ refused node.place
-  | Some setting ↦ if bytes_eq setting.0 (codes "filename") then users_at sources dict node.place setting.1 else refused node.place
+  | Some setting ↦ if bytes_eq setting.0 (codes "filename") && not (has_expansion setting.1) then users_at sources dict node.place setting.1 else refused node.place
 ]
 
 -- Before the first module a site has none.

@@ -14,6 +14,7 @@ use Rattle.rad_site.specs.declared.fault.BuildFault.{BuildFault}
 use Rattle.rad_site.specs.declared.statement.Statement.{Statement}
 use Rattle.rad_site.specs.declared.statement.Statement.TheVariants as statement
 use Rattle.rad_site.specs.Nodes.{refused, needed, only}
+use Rattle.rad_site.specs.Items.{is_literal}
 
 -- The return code of this name. Names are compared without regard to ASCII case.
 unfoldable pub code_of : List ℕ → Option Code
@@ -46,11 +47,11 @@ named_statement modules section word = elim (code_of word) [
 unfoldable pub is_auth_type : List ℕ → Bool
 is_auth_type word = str_eq_ignore_ascii_case word (codes "Auth-Type") || str_eq_ignore_ascii_case word (codes "&Auth-Type")
 
--- The line `Auth-Type := NAME` of an update.
+-- The line `Auth-Type := NAME` of an update. The name is a literal.
 unfoldable pub edit_at : Node → Result Statement BuildFault
 edit_at line = elim (out-Item line.item) [
   | level.Pair left operator right ↦
-      if is_auth_type left.text && bytes_eq operator (codes ":=")
+      if is_auth_type left.text && bytes_eq operator (codes ":=") && is_literal right
       then Ok (statement.AuthType right.text) else refused line.place
   | level.Name word ↦ refused line.place
   | level.Block kind name body ↦ refused line.place

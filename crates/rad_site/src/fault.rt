@@ -49,9 +49,11 @@ impl From<ConfFault> for BuildFault {
             ConfFault::NoMemory => BuildFault::NoMemory,
             ConfFault::Unclosed(place) => BuildFault::Conf(ConfFault::Unclosed(place)),
             ConfFault::Stray(place) => BuildFault::Conf(ConfFault::Stray(place)),
+            ConfFault::BadQuote(place) => BuildFault::Conf(ConfFault::BadQuote(place)),
+            ConfFault::NoVariable(place) => BuildFault::Conf(ConfFault::NoVariable(place)),
+            ConfFault::TooDeep(place) => BuildFault::Conf(ConfFault::TooDeep(place)),
             ConfFault::Missing(place) => BuildFault::Conf(ConfFault::Missing(place)),
             ConfFault::TooLong(place) => BuildFault::Conf(ConfFault::TooLong(place)),
-            ConfFault::NotBuilt(place) => BuildFault::Conf(ConfFault::NotBuilt(place)),
         }
     }
 }

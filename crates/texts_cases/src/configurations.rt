@@ -66,9 +66,11 @@ fn parts_of(fault: &ConfFault) -> (&'static [u8], Option<&Place>) {
     match fault {
         ConfFault::Unclosed(place) => (b"Unclosed", Some(place)),
         ConfFault::Stray(place) => (b"Stray", Some(place)),
+        ConfFault::BadQuote(place) => (b"BadQuote", Some(place)),
+        ConfFault::NoVariable(place) => (b"NoVariable", Some(place)),
+        ConfFault::TooDeep(place) => (b"TooDeep", Some(place)),
         ConfFault::Missing(place) => (b"Missing", Some(place)),
         ConfFault::TooLong(place) => (b"TooLong", Some(place)),
-        ConfFault::NotBuilt(place) => (b"NotBuilt", Some(place)),
         ConfFault::ReadFault => (b"ReadFault", None),
         ConfFault::NoMemory => (b"NoMemory", None),
     }

@@ -1,7 +1,7 @@
 //! Trees of configurations as text: each node as `LINE:ITEM;`, where a pair is `LEFT OPERATOR RIGHT`, a block `KIND{..}`
-//! or `KIND NAME{..}` with its body's nodes. Below eight blocks a body is `..`, and an empty tree is `nothing`.
+//! or `KIND NAME{..}` with its body's nodes, and a word stands in its quotes. Below eight blocks a body is `..`, and an empty tree is `nothing`.
 
-use rad_conf::{Conf, Item, NodeList, Word};
+use rad_conf::{Conf, Item, NodeList, Quote, Word};
 use rad_outside::NoMemory;
 use shared_cases::push_number;
 use std::alloc::Global;
@@ -33,7 +33,7 @@ fn push_nodes(
             Item::Pair(left, operator, right) => {
                 push_pair(to, left, operator.as_slice(), right)?;
             }
-            Item::Name(word) => to.extend_from_slice(word.text.as_slice())?,
+            Item::Name(word) => push_word(to, word)?,
             Item::Block(kind, name, body) => {
                 push_head(to, kind, name)?;
                 if depth == 0 {
@@ -49,22 +49,34 @@ fn push_nodes(
     Ok(())
 }
 
+/// Writes a word, in the quotes that it was written in.
+fn push_word(to: &mut Vec<u8>, word: &Word) -> Result<(), NoMemory> {
+    let quote: &[u8] = match word.quote {
+        Quote::Bare => b"",
+        Quote::Single => b"'",
+        Quote::Double => b"\"",
+    };
+    to.extend_from_slice(quote)?;
+    to.extend_from_slice(word.text.as_slice())?;
+    to.extend_from_slice(quote)?;
+    Ok(())
+}
+
 /// Writes a pair.
 fn push_pair(to: &mut Vec<u8>, left: &Word, operator: &[u8], right: &Word) -> Result<(), NoMemory> {
-    to.extend_from_slice(left.text.as_slice())?;
+    push_word(to, left)?;
     to.push(b' ')?;
     to.extend_from_slice(operator)?;
     to.push(b' ')?;
-    to.extend_from_slice(right.text.as_slice())?;
-    Ok(())
+    push_word(to, right)
 }
 
 /// Writes a block's kind and name, and its opening brace.
 fn push_head(to: &mut Vec<u8>, kind: &Word, name: &Option<Word>) -> Result<(), NoMemory> {
-    to.extend_from_slice(kind.text.as_slice())?;
+    push_word(to, kind)?;
     if let Some(name) = name {
         to.push(b' ')?;
-        to.extend_from_slice(name.text.as_slice())?;
+        push_word(to, name)?;
     }
     to.push(b'{')?;
     Ok(())

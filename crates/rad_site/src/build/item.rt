@@ -2,15 +2,40 @@
 
 ghost use Rattle.std.specs.Prelude.{◌≡◌};
 ghost use Rattle.std.specs.Option.{option_map};
-ghost use Rattle.rad_site.specs.Items.{is_assignment, setting_of, is_block, plain_block, named_block};
+ghost use Rattle.rad_site.specs.Items.{has_expansion, is_literal, is_assignment, setting_of, is_block, plain_block, named_block};
 
-use rad_conf::{Item, Node};
+use rad_conf::{Item, Node, Quote, Word};
 
 /// Whether an operator is `=` or `:=`.
 fn is_assignment(operator: &[u8]) -> bool
     ensures { result ≡ is_assignment operator.now }
 {
     operator == b"=".as_slice() || operator == b":=".as_slice()
+}
+
+/// Whether an expansion stands in a text.
+#[tactic(auto, unfolding(crate::specs::Items::has_expansion))]
+pub(crate) fn has_expansion(text: &[u8]) -> bool
+    ensures { result ≡ has_expansion text.now }
+{
+    let mut rest = text;
+    while let Some((octet, after)) = rest.split_first() {
+        if *octet == b'%' && after.first() == Some(&b'{') {
+            return true;
+        }
+        rest = after;
+    }
+    false
+}
+
+/// Whether a word stands for its text.
+pub(crate) fn is_literal(word: &Word) -> bool
+    ensures { result ≡ is_literal word.now }
+{
+    match word.quote {
+        Quote::Bare => !has_expansion(word.text.as_slice()),
+        Quote::Single | Quote::Double => false,
+    }
 }
 
 /// The name and the value of an item `name = value` or `name := value`.

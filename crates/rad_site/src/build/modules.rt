@@ -6,7 +6,7 @@ ghost use Rattle.rad_site.specs.Nodes.{Gives, only, after_each};
 ghost use Rattle.rad_site.specs.Sources.{FindsIn};
 ghost use Rattle.rad_site.specs.ModulesBlock.{users_in, users_at, filename_at, no_modules, no_items, alone, is_first_files, is_first_pap, with_files, with_pap, with_module, modules_at};
 
-use crate::build::item::{plain_block, setting_of};
+use crate::build::item::{has_expansion, plain_block, setting_of};
 use crate::build::path::file_path;
 use crate::build::refusal::refuse;
 use crate::fault::BuildFault;
@@ -108,7 +108,7 @@ fn filename_at<F: Files>(
     let Some((name, value)) = setting_of(node) else {
         return refuse(alloc, &node.place);
     };
-    if name != b"filename".as_slice() {
+    if name != b"filename".as_slice() || has_expansion(value) {
         return refuse(alloc, &node.place);
     }
     users_at(alloc, files, dir, dict, &node.place, value)

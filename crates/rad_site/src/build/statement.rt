@@ -4,6 +4,7 @@ ghost use Rattle.std.specs.Prelude.{◌≡◌, [], ◌++◌, ◌∷◌, OnOk};
 ghost use Rattle.rad_site.specs.Nodes.{Gives, only, each};
 ghost use Rattle.rad_site.specs.Statements.{code_of, has_files_in, call_of, named_statement, is_auth_type, edit_at, statement_at};
 
+use crate::build::item::is_literal;
 use crate::build::modules::Modules;
 use crate::build::refusal::refuse;
 use crate::fault::BuildFault;
@@ -78,7 +79,10 @@ fn edit_at(alloc: Global, line: &Node) -> Result<Statement, BuildFault>
 {
     match &line.item {
         Item::Pair(left, operator, right) => {
-            if is_auth_type(left.text.as_slice()) && operator.as_slice() == b":=".as_slice() {
+            if is_auth_type(left.text.as_slice())
+                && operator.as_slice() == b":=".as_slice()
+                && is_literal(right)
+            {
                 let name = Octets::of(alloc, right.text.as_slice())?;
                 Ok(Statement::AuthType(name))
             } else {

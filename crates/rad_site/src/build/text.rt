@@ -48,9 +48,11 @@ fn conf_fault_text(alloc: Global, fault: &ConfFault) -> Result<Octets, NoMemory>
     match fault {
         ConfFault::Unclosed(place) => placed_text(alloc, place, b"Unclosed"),
         ConfFault::Stray(place) => placed_text(alloc, place, b"Stray"),
+        ConfFault::BadQuote(place) => placed_text(alloc, place, b"BadQuote"),
+        ConfFault::NoVariable(place) => placed_text(alloc, place, b"NoVariable"),
+        ConfFault::TooDeep(place) => placed_text(alloc, place, b"TooDeep"),
         ConfFault::Missing(place) => placed_text(alloc, place, b"Missing"),
         ConfFault::TooLong(place) => placed_text(alloc, place, b"TooLong"),
-        ConfFault::NotBuilt(place) => placed_text(alloc, place, b"NotBuilt"),
         ConfFault::ReadFault => read_fault_text(alloc),
         ConfFault::NoMemory => memory_text(alloc),
     }
