@@ -98,8 +98,7 @@ stops_at_dict folder nodes e a b None (Some d) begins read found = absurd found
 stops_at_dict folder nodes e a None (Some c) (Some d) begins read found = absurd read
 stops_at_dict folder nodes e None (Some b) (Some c) (Some d) begins read found = absurd begins
 stops_at_dict folder nodes e (Some a) (Some b) (Some c) (Some d) begins read found =
-    let same : c ≡ begun a = read.0 ∙ begins in
-    (
+    let same : c ≡ begun a = read.0 ∙ begins in (
       found.0 ∙ same,
       is_built (record { files = (begun a).present; folder = folder }) (Err e)
           (dict_misses (record { files = (begun a).present; folder = folder }) nodes e
