@@ -1,7 +1,6 @@
 -- The tree of a whole configuration.
-use Rattle.std.proofs.Common.{◌≡◌, ℕ, List, Result, Ok, Err, refl}
+use Rattle.std.proofs.Common.{◌≡◌, ℕ, List, Ok, refl}
 use Rattle.rad_outside.specs.Files.{File}
-use Rattle.rad_text.specs.Read.{◌>>=◌}
 use Rattle.rad_conf.specs.declared.fault.ConfFault.{ConfFault}
 use Rattle.rad_conf.specs.declared.tree.Node.{Node}
 use Rattle.rad_conf.specs.declared.growth.Growth.{Growth}

@@ -1,16 +1,8 @@
 -- The places of pairs, as a list of nodes grows, and what is found by them.
-use Rattle.std.proofs.Common.{◌≡◌, ℕ, suc, Bool, true, false, cond, eqb, List, [], ◌∷◌, ◌++◌, length, reverse, Option, Some, None, option_map, nat_cmp, refl, sym, ap, subst, ◌∙◌, eq-eqb}
-use Rattle.std.specs.Option.{option_and_then}
-use Rattle.std.specs.List.{slice_get}
-use Rattle.std.specs.Str.{bytes_eq}
+use Rattle.std.proofs.Common.{◌≡◌, ℕ, suc, Bool, true, false, cond, eqb, List, [], ◌∷◌, ◌++◌, length, Option, Some, None, option_map, refl, sym, ap, subst, ◌∙◌, eq-eqb}
 use Rattle.std.proofs.lemmas.Bool.{eqb-true}
-use Rattle.std.proofs.lemmas.List.{reverse-append}
 use Rattle.rad_conf.specs.declared.tree.Node.{Node}
-use Rattle.rad_conf.specs.declared.tree.Item.{Item, out-Item}
-use Rattle.rad_conf.specs.declared.tree.Item.TheOpen as level
-use Rattle.rad_conf.specs.Tree.{Layer}
-use Rattle.rad_conf.specs.Places.{key_of, pair_key, is_key, later, last_place}
-use Rattle.rad_conf.specs.Variables.{or_else, pair_value, first_value, last_value}
+use Rattle.rad_conf.specs.Places.{pair_key, is_key, later, last_place}
 
 abbrev at_end : Bool → ℕ → Option ℕ
 at_end b n = cond b (Some n) None

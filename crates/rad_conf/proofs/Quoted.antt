@@ -1,11 +1,11 @@
 -- Words between quotes are read back.
-use Rattle.std.proofs.Common.{◌≡◌, ℕ, suc, ◌+◌, Bool, true, false, not, ◌&&◌, ◌||◌, ◌==◌, cond, List, [], ◌∷◌, ◌++◌, length, take, drop, Option, Some, None, Result, Ok, refl, sym, ap, ◌∙◌, append_assoc, arith}
+use Rattle.std.proofs.Common.{◌≡◌, ℕ, suc, ◌+◌, Bool, true, false, ◌==◌, cond, List, [], ◌∷◌, ◌++◌, length, take, drop, Option, Some, Result, Ok, refl, ap, ◌∙◌, append_assoc, arith}
 use Rattle.std.proofs.lemmas.List.{length-append}
 use Rattle.std.proofs.lemmas.Grind.{common_steps}
 use Rattle.rad_conf.specs.declared.fault.Wrong.{Wrong}
 use Rattle.rad_conf.specs.declared.spelling.Spelling.{Spelling}
 use Rattle.rad_conf.specs.declared.spelling.Spelling.TheVariants as spelling
-use Rattle.rad_conf.specs.declared.spelling.Ahead.TheVariants.{Reads, Escaped, Passes}
+use Rattle.rad_conf.specs.declared.spelling.Ahead.TheVariants.{Reads}
 use Rattle.rad_conf.specs.declared.growth.Growth.{Growth}
 use Rattle.rad_conf.specs.declared.tree.Quote.{Quote}
 use Rattle.rad_conf.specs.declared.tree.Quote.TheVariants.{Single, Double}

@@ -1,8 +1,7 @@
 -- The files that an include takes, by what the files have at a path.
-use Rattle.std.proofs.Common.{◌≡◌, ℕ, Bool, true, false, List, Option, Some, None, refl, sym, ap, ◌∙◌}
+use Rattle.std.proofs.Common.{◌≡◌, ℕ, Bool, true, false, List, Some, None, refl}
 use Rattle.std.specs.Str.{IsUtf8, is_utf8}
 use Rattle.std.proofs.lemmas.Str.{IsUtf8-from_is_utf8, is_utf8-from_IsUtf8}
-use Rattle.std.proofs.lemmas.Bool.{cond-true, cond-false}
 use Rattle.rad_outside.specs.Files.{File, octets_at, is_folder, names_in}
 use Rattle.rad_conf.specs.Includes.{named_in, folder_paths, found_at}
 

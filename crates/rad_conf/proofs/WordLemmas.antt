@@ -1,11 +1,9 @@
 -- Words and keywords take an octet at least.
-use Rattle.std.proofs.Common.{◌≡◌, ℕ, suc, ◌+◌, ◌<◌, Bool, true, false, cond, List, [], ◌∷◌, length, Option, Some, None, refl, arith}
-use Rattle.rad_conf.specs.declared.sign.Sign.{Sign}
+use Rattle.std.proofs.Common.{◌≡◌, ℕ, ◌<◌, List, [], ◌∷◌, length, Option, Some, None, arith}
 use Rattle.rad_conf.specs.declared.sign.Sign.TheVariants as sign
-use Rattle.rad_conf.specs.declared.item.Keyword.{Keyword}
 use Rattle.rad_conf.specs.declared.item.Keyword.TheVariants as keyword
-use Rattle.rad_conf.specs.Signs.{group_len, bare_at, operator_at, longer_sign, sign_at, bare_octets}
-use Rattle.rad_conf.specs.Words.{bare_left, bare_len, is_condition}
+use Rattle.rad_conf.specs.Signs.{group_len, bare_at, longer_sign, sign_at, bare_octets}
+use Rattle.rad_conf.specs.Words.{bare_len, is_condition}
 use Rattle.rad_conf.specs.Marks.{keyword_of}
 
 group_some : (o : Option ℕ) → 0 < group_len o

@@ -1,6 +1,6 @@
 -- Conditions: the text from a `(` to its matching `)`. Quotes and patterns in it are passed over, and variables are replaced but in
 -- single quotes and patterns. After the manual page unlang(5).
-use Rattle.std.specs.Prelude.{ℕ, ◌+◌, ◌-◌, Bool, true, false, ◌&&◌, ◌||◌, ◌==◌, List, [], ◌∷◌, ◌++◌, take, drop, slice_index, Option, Some, None, Result, Ok, Err, if◌then◌else◌}
+use Rattle.std.specs.Prelude.{ℕ, ◌+◌, ◌-◌, Bool, false, ◌&&◌, ◌||◌, ◌==◌, List, [], ◌∷◌, ◌++◌, take, drop, slice_index, Some, None, Result, Ok, Err, if◌then◌else◌}
 use Rattle.rad_conf.specs.declared.fault.Wrong.{Wrong}
 use Rattle.rad_conf.specs.declared.fault.Wrong.TheVariants as wrong
 use Rattle.rad_conf.specs.declared.spelling.Spelling.TheVariants as spelling

@@ -1,6 +1,6 @@
 -- A configuration: the tree that its file spells with the files that it includes, or the first fault in reading order. After the
 -- manual page radiusd.conf(5).
-use Rattle.std.specs.Prelude.{ℕ, List, [], ◌++◌, Option, Some, None, Result, Ok, Err, codes}
+use Rattle.std.specs.Prelude.{ℕ, List, ◌++◌, Option, Some, None, Result, Ok, Err, codes}
 use Rattle.rad_outside.specs.Files.{File, octets_at}
 use Rattle.rad_text.specs.Read.{◌>>=◌}
 use Rattle.rad_text.specs.Paths.{place_at}

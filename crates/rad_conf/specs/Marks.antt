@@ -1,6 +1,6 @@
 -- The mark at the front of a text: passed signs, line ends, closing braces, whole items, heads of blocks and includes. After the
 -- manual page radiusd.conf(5).
-use Rattle.std.specs.Prelude.{ℕ, Bool, true, false, ◌&&◌, ◌||◌, ◌==◌, List, [], ◌∷◌, take, drop, Option, Some, None, Result, Ok, Err, codes, if◌then◌else◌}
+use Rattle.std.specs.Prelude.{ℕ, Bool, true, false, ◌&&◌, ◌||◌, List, [], take, drop, Some, None, Result, Ok, Err, codes, if◌then◌else◌}
 use Rattle.std.specs.Str.{bytes_eq, str_eq_ignore_ascii_case}
 use Rattle.rad_text.specs.Read.{◌>>=◌}
 use Rattle.rad_text.specs.Blanks.{after_blanks}
@@ -11,7 +11,6 @@ use Rattle.rad_conf.specs.declared.fault.Wrong.TheVariants.{Stray}
 use Rattle.rad_conf.specs.declared.tree.Quote.{Quote}
 use Rattle.rad_conf.specs.declared.tree.Quote.TheVariants.{Bare, Single, Double}
 use Rattle.rad_conf.specs.declared.tree.Word.{Word}
-use Rattle.rad_conf.specs.declared.tree.Item.{Item}
 use Rattle.rad_conf.specs.declared.tree.Item.TheVariants as item
 use Rattle.rad_conf.specs.declared.mark.Mark.{Mark}
 use Rattle.rad_conf.specs.declared.mark.Mark.TheVariants as mark

@@ -1,16 +1,15 @@
-use Rattle.std.proofs.Common.{◌≡◌, ◌+◌, ◌-◌, ◌<◌, ◌≢◌, false, eqb, ◌∷◌, List, ℕ, Option, Some, None, Result, Ok, Err, refl, sym, ap, subst, ◌∙◌, length, arith}
+use Rattle.std.proofs.Common.{◌≡◌, ◌-◌, ◌<◌, ◌≢◌, false, eqb, ◌∷◌, List, ℕ, Ok, refl, sym, ap, subst, ◌∙◌, length, arith}
 use Rattle.std.proofs.lemmas.Bool.{eqb-true, eqb-false}
 use Rattle.std.proofs.lemmas.Result.{err_from_is_err_and}
 use Rattle.rad_outside.specs.Files.{FilesTold}
 use Rattle.rad_text.specs.Paths.{joined}
-use Rattle.rad_conf.specs.declared.fault.ConfFault.{ConfFault}
 use Rattle.rad_conf.specs.declared.growth.Growth.{Growth}
-use Rattle.rad_conf.specs.Answers.{IsFault, Reads}
+use Rattle.rad_conf.specs.Answers.{IsFault}
 use Rattle.rad_conf.specs.Growth.{taken, text_read}
 use Rattle.rad_conf.specs.Includes.{paths_of, found_at, found_read, include_read}
 use Rattle.rad_conf.proofs.Tellings.{Tells-same, Tells-weaker, Tells-trans}
 use Rattle.rad_conf.proofs.IncludedFiles.{too_deep, include_missing, include_begins, path_fails, path_goes, paths_done, same_value}
-use Rattle.rad_conf.proofs.Going.{Going, goes_on, goes_wrong, goes_out, is_done, starts, too_long, end_fails, end_goes}
+use Rattle.rad_conf.proofs.Going.{goes_on, goes_wrong, goes_out, is_done, starts, too_long, end_fails, end_goes}
 use Rattle.rad_conf.proofs.including.+reading.Goals as goal
 
 nonzero : (n : ℕ) → false ≡ eqb n 0 → 0 < n

@@ -1,4 +1,4 @@
-use Rattle.std.proofs.Common.{◌≡◌, ◌+◌, ◌*◌, ◌-◌, ◌<◌, ◌≤◌, length}
+use Rattle.std.proofs.Common.{◌≡◌, ◌+◌, ◌*◌, ◌-◌, ◌≤◌, length}
 use Rattle.rad_outside.specs.Telling.{Tells}
 use Rattle.rad_conf.specs.Growth.{text_read}
 use Rattle.rad_conf.specs.Includes.{paths_read, include_read}

@@ -1,7 +1,6 @@
 use Rattle.std.proofs.Common.{◌≡◌, ℕ, eqb, false, Option, Some, length, nat_cmp, sym, ap, ◌∙◌, arith}
 use Rattle.std.proofs.lemmas.Grind.{common_steps}
 use Rattle.std.specs.BTreeMap.{get}
-use Rattle.rad_conf.specs.Places.{last_place}
 use Rattle.rad_conf.proofs.PlacesLemmas.{push_none, places_with}
 use Rattle.rad_conf.proofs.tree.Branch.push.Goals as goal
 
