@@ -8,9 +8,10 @@ use Rattle.mod_files.specs.declared.entry.Entry.{Entry}
 use Rattle.mod_files.specs.declared.line.Line.{Line}
 use Rattle.mod_files.specs.declared.fault.UsersFault.{UsersFault}
 use Rattle.mod_files.specs.declared.fault.UsersFault.TheVariants.{NotBuilt, NoMemory}
-use Rattle.mod_files.specs.Lines.{lines_of}
+use Rattle.rad_text.specs.Answers.{Continues}
+use Rattle.rad_text.specs.Lines.{lines_of}
 use Rattle.mod_files.specs.Line.{line_of}
-use Rattle.mod_files.specs.Entries.{with_replies, last_with_replies, entries_with, entries_after, entries_from, IsRefused, Continues}
+use Rattle.mod_files.specs.Entries.{with_replies, last_with_replies, entries_with, entries_after, entries_from, IsRefused, says}
 
 -- Reply items go to the last entry.
 pub last_with_replies-push : (items : List Item) (entries : List Entry) (entry : Entry) → last_with_replies items (entries ++ entry ∷ []) ≡ Some (entries ++ with_replies items entry ∷ [])
@@ -42,7 +43,7 @@ goes_on number entries next line said more dict e f =
 -- The same of what a step returned.
 pub steps : (number : ℕ) (entries next : List Entry) (line : List ℕ) (said : Line) (more : List (List ℕ)) (dict : Definitions) (result : Result (Unit {0}) UsersFault) → line_of line dict ≡ Some said
     → OnOk result (entries_with number said entries ≡ Some next) → IfErr result (IsRefused number (entries_with number said entries))
-    → Continues (entries_from number entries (line ∷ more) dict) (entries_from (number + 1) next more dict) result
+    → Continues says (entries_from number entries (line ∷ more) dict) (entries_from (number + 1) next more dict) result
 steps number entries next line said more dict (Ok done) e ok err = goes_on number entries next line said more dict e ok
 steps number entries next line said more dict (Err (NotBuilt at)) e ok err =
     is_refused number entries line more dict (ap (λ o. entries_after number o entries) e ∙ err.1) ∙ ap (λ n. Err (NotBuilt n)) (sym err.0)
@@ -51,7 +52,7 @@ steps number entries next line said more dict (Err NoMemory) e ok err = tt
 -- The same of a step that fails for want of memory alone.
 pub begins : (number : ℕ) (entries next : List Entry) (line : List ℕ) (said : Line) (more : List (List ℕ)) (dict : Definitions) (result : Result (Unit {0}) UsersFault) → line_of line dict ≡ Some said
     → OnOk result (entries_with number said entries ≡ Some next) → IfErr result (λ fault. fault ≡ NoMemory)
-    → Continues (entries_from number entries (line ∷ more) dict) (entries_from (number + 1) next more dict) result
+    → Continues says (entries_from number entries (line ∷ more) dict) (entries_from (number + 1) next more dict) result
 begins number entries next line said more dict (Ok done) e ok err = goes_on number entries next line said more dict e ok
 begins number entries next line said more dict (Err fault) e ok err = rw err tt
 

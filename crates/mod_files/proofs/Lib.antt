@@ -1,4 +1,3 @@
-pub mod FirstLine
 pub mod Walks
 pub mod Trials
 pub mod PlacesLemmas

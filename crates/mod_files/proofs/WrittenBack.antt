@@ -1,11 +1,13 @@
 -- Users that are written are read back.
-use Rattle.std.proofs.Common.{◌≡◌, ℕ, suc, ◌+◌, false, List, [], ◌∷◌, ◌++◌, length, map, Ok, refl, sym, ap, append_assoc, ◌∙◌, arith}
+use Rattle.std.proofs.Common.{◌≡◌, ℕ, suc, ◌+◌, true, List, [], ◌∷◌, ◌++◌, length, map, Ok, refl, sym, ap, append_assoc, ◌∙◌, arith}
 use Rattle.std.specs.List.{AllByRecursion}
 use Rattle.std.proofs.lemmas.List.{append-nil}
 use Rattle.rad_value.specs.declared.values.Pair.{Pair}
 use Rattle.rad_dict.specs.Definitions.{Definitions}
 use Rattle.rad_pairs.specs.declared.items.Item.{Item}
-use Rattle.rad_pairs.specs.Words.{is_blank}
+use Rattle.rad_text.specs.Blanks.{is_blank}
+use Rattle.rad_text.specs.Lines.{is_line, lines_of}
+use Rattle.rad_text.proofs.LineEnds.{written_newline}
 use Rattle.rad_pairs.specs.ValueText.{quoted, attr_text, pair_text}
 use Rattle.rad_dict.specs.EveryDictionary.{IsDictionary}
 use Rattle.rad_pairs.specs.ReadingBack.{item_of}
@@ -13,13 +15,12 @@ use Rattle.rad_words.specs.declared.attributes.Kind.TheVariants as kind
 use Rattle.rad_pairs.proofs.Attributes.{attr_again}
 use Rattle.mod_files.specs.declared.entry.Entry.{Entry}
 use Rattle.mod_files.specs.declared.line.Line.TheVariants.{Head, Replies}
-use Rattle.mod_files.specs.Lines.{is_line_end, lines_of}
 use Rattle.mod_files.specs.LineItems.{cleartext_password}
 use Rattle.mod_files.specs.Entries.{with_replies, entries_from, users_of}
-use Rattle.mod_files.specs.Written.{User, password_item, password_text, head_text, replies_text, user_text, users_text, entries_of, IsReplyPair, IsWritable, AreWritable}
+use Rattle.mod_files.specs.Written.{is_newline, User, password_item, password_text, head_text, replies_text, user_text, users_text, entries_of, IsReplyPair, IsWritable, AreWritable}
 use Rattle.mod_files.proofs.KnownPasswords.{KnowsPasswords}
 use Rattle.mod_files.proofs.EntriesLemmas.{goes_on, no_lines, last_with_replies-push}
-use Rattle.mod_files.proofs.NoLineEnds.{has_line_end, lines_of-line, none_joined, none_in_name, none_quoted, none_in_pair}
+use Rattle.mod_files.proofs.NoLineEnds.{line_behind, none_joined, none_in_name, none_quoted, none_in_pair}
 use Rattle.mod_files.proofs.WrittenLines.{none_of_second, head_back, reply_back}
 
 -- The lines of reply pairs.
@@ -35,7 +36,7 @@ lines_of-replies (pair ∷ pairs) more dict plain all =
     let line = 9 ∷ pair_text pair dict in
     let rest = replies_text pairs dict in
     ap (λ (text : List ℕ). lines_of (9 ∷ text)) (append_assoc (pair_text pair dict) (10 ∷ rest) more)
-    ∙ lines_of-line line (rest ++ more) (none_in_pair pair dict plain all.0.fits)
+    ∙ written_newline line (rest ++ more) (line_behind [] 9 (pair_text pair dict) refl (none_in_pair pair dict plain all.0.fits))
     ∙ ap (λ lines. line ∷ lines) (lines_of-replies pairs more dict plain all.1)
 
 -- The lines of reply pairs add their items to the last entry.
@@ -56,11 +57,11 @@ replies_taken (pair ∷ pairs) number entries entry more dict plain all =
     ∙ ap (λ (e : Entry). entries_from (number + 1 + length pairs) (entries ++ e ∷ []) more dict) whole
     ∙ ap (λ n. entries_from n (entries ++ with_replies (map item_of (pair ∷ pairs)) entry ∷ []) more dict) same
 
-none_in_head : (user : User) (dict : Definitions) → IsDictionary dict → KnowsPasswords dict → IsWritable user dict → has_line_end (head_text user dict) ≡ false
-none_in_head user dict plain knows writable =
+head_is_line : (user : User) (dict : Definitions) → IsDictionary dict → KnowsPasswords dict → IsWritable user dict → is_line (head_text user dict) ≡ true
+head_is_line user dict plain knows writable =
     let front = attr_text cleartext_password dict in
     let known = attr_again cleartext_password dict kind.Text plain tt knows in
-    none_joined user.name (32 ∷ password_text user.password dict) (none_of_second is_blank is_line_end user.name writable.name.whole)
+    line_behind user.name 32 (password_text user.password dict) (none_of_second is_blank is_newline user.name writable.name.whole)
     (none_joined front (32 ∷ 58 ∷ 61 ∷ 32 ∷ quoted user.password) (none_in_name front known.0.1) (none_quoted user.password))
 
 abbrev entry_at : ℕ → User → List Item → Entry
@@ -75,7 +76,7 @@ user_taken user number entries more dict plain knows writable =
     let first = entry_at number user [] in
     let lines : lines_of (user_text user dict ++ more) ≡ head ∷ (reply_lines user.replies dict ++ lines_of more) =
     ap lines_of (append_assoc head (10 ∷ rest) more)
-    ∙ lines_of-line head (rest ++ more) (none_in_head user dict plain knows writable)
+    ∙ written_newline head (rest ++ more) (head_is_line user dict plain knows writable)
     ∙ ap (λ others. head ∷ others) (lines_of-replies user.replies more dict plain writable.replies) in
     ap (λ text. entries_from number entries text dict) lines
     ∙ sym (goes_on number entries (entries ++ first ∷ []) head (Head user.name (password_item user.password ∷ [])) (reply_lines user.replies dict ++ lines_of more) dict (head_back user.name user.password dict plain knows writable.name writable.password) refl)

@@ -7,7 +7,7 @@ use Rattle.std.proofs.lemmas.List.{length-append}
 use Rattle.rad_value.specs.declared.values.Pair.{Pair}
 use Rattle.rad_dict.specs.Definitions.{Definitions}
 use Rattle.rad_pairs.specs.declared.items.Item.{Item}
-use Rattle.rad_pairs.specs.Words.{is_blank}
+use Rattle.rad_text.specs.Blanks.{is_blank}
 use Rattle.rad_pairs.specs.Items.{items_of}
 use Rattle.rad_pairs.specs.ValueText.{attr_text, value_text, pair_text}
 use Rattle.rad_dict.specs.NameForms.{is_name_octet}
@@ -18,10 +18,10 @@ use Rattle.rad_pairs.proofs.Names.{IsName}
 use Rattle.rad_pairs.proofs.Attributes.{attr_again}
 use Rattle.rad_pairs.proofs.ReadBack.{read_back}
 use Rattle.mod_files.specs.declared.line.Line.TheVariants.{Passed, Head, Replies}
-use Rattle.mod_files.specs.Lines.{is_line_end, is_passed, is_indented, is_name}
+use Rattle.mod_files.specs.Lines.{is_passed, is_indented, is_name}
 use Rattle.mod_files.specs.LineItems.{is_one_password, are_replies}
 use Rattle.mod_files.specs.Line.{head_with, head_of, replies_with, line_of}
-use Rattle.mod_files.specs.Written.{password_item, password_text, IsBareName, IsReplyPair}
+use Rattle.mod_files.specs.Written.{is_newline, password_item, password_text, IsBareName, IsReplyPair}
 use Rattle.mod_files.proofs.KnownPasswords.{KnowsPasswords}
 use Rattle.mod_files.proofs.WrittenItems.{items_behind_tab, password_back}
 
@@ -85,12 +85,12 @@ as_replies line items dict says indented read built =
 -- The first line of a user.
 pub head_back : (name password : List ℕ) (dict : Definitions) → IsDictionary dict → KnowsPasswords dict → IsBareName name → AreOctets password
     → line_of (name ++ 32 ∷ password_text password dict) dict ≡ Some (Head name (password_item password ∷ []))
-head_back [] password dict plain knows bare all = absurd (true≢false bare.says)
+head_back [] password dict plain knows bare all = absurd (true≢false bare.no_comment)
 head_back (c ∷ name) password dict plain knows bare all =
     let rest = password_text password dict in
-    let none : list_any is_blank (c ∷ name) ≡ false = none_of_first is_blank is_line_end (c ∷ name) bare.whole in
+    let none : list_any is_blank (c ∷ name) ≡ false = none_of_first is_blank is_newline (c ∷ name) bare.whole in
     let solid : is_blank c ≡ false = (or_parts (is_blank c) (list_any is_blank name) none).0 in
-    let says : is_passed (c ∷ (name ++ 32 ∷ rest)) ≡ false = passed_by_first c (name ++ 32 ∷ rest) solid ∙ sym (passed_by_first c name solid) ∙ bare.says in
+    let says : is_passed (c ∷ (name ++ 32 ∷ rest)) ≡ false = passed_by_first c (name ++ 32 ∷ rest) solid ∙ sym (passed_by_first c name solid) ∙ bare.no_comment in
     as_head ((c ∷ name) ++ 32 ∷ rest) (c ∷ name) rest (password_item password ∷ []) dict says solid
     (before_first-at is_blank (c ∷ name) 32 rest none refl) (after_first-at is_blank (c ∷ name) 32 rest none refl)
     (password_back password dict plain knows all) bare.named refl

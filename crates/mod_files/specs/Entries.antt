@@ -1,6 +1,6 @@
 -- The entries of a users file, in file order, or its first line that isn't built; and the entry of a name. After
 -- users(5); that the first entry of a name is taken alone is this project's own at this stage.
-use Rattle.std.specs.Prelude.{◌≡◌, ℕ, ◌+◌, Bool, List, [], ◌∷◌, ◌++◌, Option, Some, None, Result, Ok, Err, find}
+use Rattle.std.specs.Prelude.{◌≡◌, ℕ, ◌+◌, Bool, true, false, List, [], ◌∷◌, ◌++◌, Option, Some, None, Result, Ok, Err, find}
 use Rattle.std.specs.Option.{option_map}
 use Rattle.std.specs.Str.{bytes_eq}
 use Rattle.rad_dict.specs.Definitions.{Definitions}
@@ -47,24 +47,15 @@ entries_from number entries (line ∷ lines) dict = elim (entries_after number (
 unfoldable pub users_of : List ℕ → Definitions → Result (List Entry) UsersFault
 users_of text dict = entries_from 1 [] (lines_of text) dict
 
--- The answer is the entries or the fault that is said of a text; want of memory says nothing of it.
-abbrev pub IsFault : Result (List Entry) UsersFault → UsersFault → Type 0
-IsFault said (NotBuilt line) = said ≡ Err (NotBuilt line)
-IsFault said NoMemory = Unit {0}
-
-abbrev pub IsAnswer : Result (List Entry) UsersFault → Result (List Entry) UsersFault → Type 0
-IsAnswer said (Ok users) = said ≡ Ok users
-IsAnswer said (Err fault) = IsFault said fault
+-- A fault that says something of a text: want of memory says nothing.
+abbrev pub says : UsersFault → Bool
+says (NotBuilt line) = true
+says NoMemory = false
 
 -- A line that can't stand behind the entries is refused by its number; want of memory says nothing.
 abbrev pub IsRefused : ℕ → Option (List Entry) → UsersFault → Type 0
 IsRefused number after (NotBuilt line) = (line ≡ number) × (after ≡ None)
 IsRefused number after NoMemory = Unit {0}
-
--- A step leaves what is said as it was, or answers the fault that was said.
-abbrev pub Continues : Result (List Entry) UsersFault → Result (List Entry) UsersFault → Result (Unit {0}) UsersFault → Type 0
-Continues before after (Ok done) = after ≡ before
-Continues before after (Err fault) = IsFault before fault
 
 -- Names are compared octet by octet.
 abbrev pub is_named : List ℕ → Entry → Bool

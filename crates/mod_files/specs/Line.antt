@@ -3,7 +3,7 @@ use Rattle.std.specs.Prelude.{ℕ, ◌&&◌, List, Option, Some, None, if◌then
 use Rattle.std.specs.List.{before_first, after_first}
 use Rattle.rad_dict.specs.Definitions.{Definitions}
 use Rattle.rad_pairs.specs.declared.items.Item.{Item}
-use Rattle.rad_pairs.specs.Words.{is_blank}
+use Rattle.rad_text.specs.Blanks.{is_blank}
 use Rattle.mod_files.specs.declared.line.Line.{Line}
 use Rattle.mod_files.specs.declared.line.Line.TheVariants.{Passed, Head, Replies}
 use Rattle.mod_files.specs.Lines.{is_passed, is_indented, is_name}

@@ -1,17 +1,9 @@
 -- The lines of a users file, by their first octets. After users(5).
 use Rattle.std.specs.Prelude.{ℕ, Bool, true, false, not, ◌&&◌, ◌||◌, ◌==◌, List, [], ◌∷◌, codes, find, if◌then◌else◌}
 use Rattle.std.specs.Option.{option_map_or}
-use Rattle.std.specs.List.{onto_first}
 use Rattle.std.specs.Str.{bytes_eq}
-use Rattle.rad_pairs.specs.Words.{is_blank}
-
-abbrev pub is_line_end : ℕ → Bool
-is_line_end c = c == 10
-
--- The lines of a text: each ends at a line end, the last at the text's end too.
-unfoldable pub lines_of : List ℕ → List (List ℕ)
-lines_of [] = []
-lines_of (c ∷ rest) = if is_line_end c then [] ∷ lines_of rest else onto_first c (lines_of rest)
+use Rattle.rad_text.specs.Blanks.{is_blank}
+pub use Rattle.rad_text.specs.Lines.{lines_of}
 
 -- A line is passed over where it has nothing but blanks, or behind them a comment.
 abbrev pub is_passed : List ℕ → Bool

@@ -1,17 +1,17 @@
 -- Users that are written as a users file: each a line with the name and the password, and an indented line for each
 -- reply pair, as it is printed. After users(5).
-use Rattle.std.specs.Prelude.{ℕ, ◌+◌, ◌||◌, List, [], ◌∷◌, ◌++◌, length, map, IsTrue, IsFalse, codes}
+use Rattle.std.specs.Prelude.{ℕ, ◌+◌, ◌||◌, ◌==◌, Bool, List, [], ◌∷◌, ◌++◌, length, map, IsTrue, IsFalse, codes}
 use Rattle.std.specs.List.{list_any, AllByRecursion}
 use Rattle.rad_value.specs.declared.values.Pair.{Pair}
 use Rattle.rad_value.specs.declared.values.Value.TheVariants as value
 use Rattle.rad_dict.specs.Definitions.{Definitions}
 use Rattle.rad_pairs.specs.declared.items.Item.{Item}
 use Rattle.rad_pairs.specs.declared.items.PairOp.TheVariants as op
-use Rattle.rad_pairs.specs.Words.{is_blank}
+use Rattle.rad_text.specs.Blanks.{is_blank}
 use Rattle.rad_pairs.specs.ValueText.{quoted, attr_text, pair_text}
 use Rattle.rad_pairs.specs.ReadingBack.{AreOctets, IsOfKind, item_of}
 use Rattle.mod_files.specs.declared.entry.Entry.{Entry}
-use Rattle.mod_files.specs.Lines.{is_line_end, is_passed, is_name}
+use Rattle.mod_files.specs.Lines.{is_passed, is_name}
 use Rattle.mod_files.specs.LineItems.{cleartext_password, is_reply}
 
 -- A user: the name, the password, and what is replied with.
@@ -50,11 +50,15 @@ entries_of line (user ∷ users) =
     record { name = user.name; checks = password_item user.password ∷ []; replies = map item_of user.replies; line = line }
     ∷ entries_of (line + 1 + length user.replies) users
 
--- A name that can be written bare: it begins no comment and has neither blanks nor line ends.
+-- A newline, which ends a line.
+abbrev pub is_newline : ℕ → Bool
+is_newline c = c == 10
+
+-- A name that can be written bare: it begins no comment and has neither blanks nor newlines.
 pub record IsBareName (name : List ℕ) : Type 0 where
   pub named : IsTrue (is_name name)
-  pub says : IsFalse (is_passed name)
-  pub whole : IsFalse (list_any (λ c. is_blank c || is_line_end c) name)
+  pub no_comment : IsFalse (is_passed name)
+  pub whole : IsFalse (list_any (λ c. is_blank c || is_newline c) name)
 
 -- A reply pair that is built, whose value is of its attribute's kind.
 pub record IsReplyPair (pair : Pair) (dict : Definitions) : Type 0 where

@@ -47,20 +47,6 @@ impl<T: Drop> From<AllocFailed<T>> for UsersFault {
     }
 }
 
-/// Why a line could not be read.
+/// A line isn't built, or can't be read.
 #[derive(Clone, Copy, Debug, PartialEq, Eq)]
-pub enum LineError {
-    NotBuilt,
-    NoMemory,
-}
-
-impl From<NoMemory> for LineError {
-    ghost use Rattle.std.specs.Prelude.{◌≡◌};
-    ghost use Rattle.mod_files.specs.declared.fault.LineError.TheVariants as errors;
-
-    ghost from_gives = { λ _ e. e ≡ errors.NoMemory };
-
-    fn from(_e: NoMemory) -> LineError {
-        LineError::NoMemory
-    }
-}
+pub struct BadLine;

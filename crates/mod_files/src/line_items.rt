@@ -1,11 +1,13 @@
 //! The items of a line that are built.
 
 ghost use Rattle.std.specs.Prelude.{◌≡◌};
-ghost use Rattle.mod_files.specs.LineItems.{Gives, items_in, is_password, is_one_password, is_reply, are_replies};
+ghost use Rattle.rad_text.specs.Find.{Finds};
+ghost use Rattle.mod_files.specs.LineItems.{items_in, is_password, is_one_password, is_reply, are_replies};
 
-use crate::fault::LineError;
+use crate::fault::BadLine;
 use rad_dict::Dict;
 use rad_pairs::{Item, ItemList, PairFault, PairOp, read_pairs};
+use rad_text::ReadError;
 use rad_value::Value;
 use rad_words::{AttrId, Space};
 use std::alloc::Global;
@@ -17,14 +19,14 @@ const CLEARTEXT_PASSWORD: AttrId = AttrId {
 };
 
 /// The pairs of a part of a line.
-pub fn items_in(alloc: Global, text: &[u8], dict: &Dict) -> Result<ItemList, LineError>
-    ensures { Gives (λ x. x) result (items_in text.now dict.now) }
+pub fn items_in(alloc: Global, text: &[u8], dict: &Dict) -> Result<ItemList, ReadError<BadLine>>
+    ensures { Finds (λ x. x) result (items_in text.now dict.now) }
 {
     match read_pairs(alloc, text, dict) {
         Ok(items) => Ok(items),
-        Err(PairFault::NoMemory) => Err(LineError::NoMemory),
+        Err(PairFault::NoMemory) => Err(ReadError::NoMemory),
         Err(PairFault::UnknownAttr(_) | PairFault::BadOperator(_) | PairFault::BadValue(_)) => {
-            Err(LineError::NotBuilt)
+            Err(ReadError::Wrong(BadLine))
         }
     }
 }

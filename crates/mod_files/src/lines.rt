@@ -1,22 +1,11 @@
 //! The lines of a users file, by their first octets.
 
-ghost use Rattle.std.specs.Prelude.{◌≡◌, ◌+◌, ◌<◌, ◌∷◌, length, take, drop, not, position, find};
+ghost use Rattle.std.specs.Prelude.{◌≡◌, ◌+◌, ◌<◌, length, take, drop, not, position, find};
 ghost use Rattle.std.specs.List.{before_first, after_first};
-ghost use Rattle.rad_pairs.specs.Words.{is_blank};
-ghost use Rattle.mod_files.specs.Lines.{is_line_end, lines_of, is_passed, is_indented, is_name};
+ghost use Rattle.rad_text.specs.Blanks.{is_blank};
+ghost use Rattle.mod_files.specs.Lines.{is_passed, is_indented, is_name};
 
-fn is_blank(octet: u8) -> bool
-    ensures { result ≡ is_blank octet }
-{
-    matches!(octet, b' ' | b'\t')
-}
-
-/// The place of the first line end.
-fn line_end(text: &[u8]) -> Option<usize>
-    ensures { result ≡ position is_line_end text.now }
-{
-    text.iter().position(|octet| *octet == b'\n')
-}
+use rad_text::is_blank;
 
 /// The place of the first blank.
 fn blank(line: &[u8]) -> Option<usize>
@@ -41,18 +30,6 @@ fn around(text: &[u8], place: usize) -> (&[u8], &[u8])
     let (front, _) = text.split_at(place);
     let (_, back) = text.split_at(place + 1);
     (front, back)
-}
-
-/// The first line of a text, and the text behind its line end.
-pub fn first_line(text: &[u8]) -> (&[u8], &[u8])
-    requires { 0 < length text.now }
-    ensures lines { lines_of text.now ≡ result.0.now ∷ lines_of result.1.now }
-    ensures shorter { length result.1.now < length text.now }
-{
-    match line_end(text) {
-        Some(place) => around(text, place),
-        None => (text, &[]),
-    }
 }
 
 /// The name at the front of a line, up to the first blank, and what stands behind that blank.

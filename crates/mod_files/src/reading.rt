@@ -1,15 +1,16 @@
 //! The entries of a users file, read line by line.
 
 ghost use Rattle.std.specs.Prelude.{◌≡◌, ℕ, List, ◌+◌, ◌∷◌, ◌≤◌, length, IfOk, OnOk, IfErr, Ok, Some};
-ghost use Rattle.mod_files.specs.Entries.{entries_from, users_of, Continues, IsFault, IsRefused, entries_with, last_with_replies};
+ghost use Rattle.rad_text.specs.Answers.{Continues, IsFault};
+ghost use Rattle.mod_files.specs.Entries.{says, entries_from, users_of, IsRefused, entries_with, last_with_replies};
 
 use crate::Entry;
-use crate::fault::{LineError, UsersFault};
+use crate::fault::{BadLine, UsersFault};
 use crate::line::{Line, line_of};
-use crate::lines::first_line;
 use rad_dict::Dict;
 use rad_outside::Octets;
 use rad_pairs::ItemList;
+use rad_text::{ReadError, first_line};
 use std::alloc::Global;
 
 /// Begins an entry on the line of this number.
@@ -55,7 +56,7 @@ fn take_line(
     line: &[u8],
     dict: &Dict,
 ) -> Result<(), UsersFault>
-    ensures exact { (more : List (List ℕ)) → Continues
+    ensures exact { (more : List (List ℕ)) → Continues says
         (entries_from number entries.old.items (line.now ∷ more) dict.now)
         (entries_from (number + 1) entries.new.items more dict.now) result }
     ensures bound { length entries.new.items ≤ length entries.old.items + 1 }
@@ -64,8 +65,8 @@ fn take_line(
         Ok(Line::Passed) => Ok(()),
         Ok(Line::Head(name, checks)) => begin_entry(alloc, entries, name, checks, number),
         Ok(Line::Replies(items)) => add_replies(entries, items, number),
-        Err(LineError::NotBuilt) => Err(UsersFault::NotBuilt(number)),
-        Err(LineError::NoMemory) => Err(UsersFault::NoMemory),
+        Err(ReadError::Wrong(BadLine)) => Err(UsersFault::NotBuilt(number)),
+        Err(ReadError::NoMemory) => Err(UsersFault::NoMemory),
     }
 }
 
@@ -74,7 +75,7 @@ pub fn read_entries(alloc: Global, text: &[u8], dict: &Dict) -> Result<Vec<Entry
     requires { length text.now ≤ 4194304 }
     ensures ok { IfOk result (λ entries. users_of text.now dict.now ≡ Ok entries.items) }
     ensures bound { IfOk result (λ entries. length entries.items ≤ length text.now) }
-    ensures err { IfErr result (λ fault. IsFault (users_of text.now dict.now) fault) }
+    ensures err { IfErr result (λ fault. IsFault says (users_of text.now dict.now) fault) }
 {
     let mut entries = Vec::new(alloc);
     let mut rest = text;

@@ -35,7 +35,8 @@ impl Model for Users {
 }
 
 impl Users {
-    ghost use Rattle.mod_files.specs.Entries.{IsAnswer, users_of, entry_of};
+    ghost use Rattle.rad_text.specs.Answers.{IsAnswer};
+    ghost use Rattle.mod_files.specs.Entries.{says, users_of, entry_of};
 
     /// No entries.
     pub fn new(alloc: Global) -> Users
@@ -51,7 +52,7 @@ impl Users {
     /// that its lines are counted in 32 bits.
     pub fn read(alloc: Global, text: &[u8], dict: &Dict) -> Result<Users, UsersFault>
         requires { length text.now ≤ 4194304 }
-        ensures { IsAnswer (users_of text.now dict.now) result }
+        ensures { IsAnswer says (users_of text.now dict.now) result }
     {
         let entries = read_entries(alloc, text, dict)?;
         let places = places_of(alloc, entries.as_slice())?;

@@ -1,8 +1,6 @@
 pub mod Lookups
 pub mod PlacesLemmas
 pub mod Indexed
-pub mod Statements
-pub mod FirstLines
 pub mod Tellings
 pub mod Readings
 pub mod Growing

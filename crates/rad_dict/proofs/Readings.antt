@@ -11,27 +11,15 @@ use Rattle.rad_dict.specs.declared.fault.DictFault.TheVariants as fault
 use Rattle.rad_dict.specs.declared.reading.Reading.{Reading}
 use Rattle.rad_dict.specs.declared.step.Step.{Step}
 use Rattle.rad_dict.specs.declared.step.Step.TheVariants as step
-use Rattle.rad_dict.specs.Answers.{IsFault, IsAnswer}
-use Rattle.rad_dict.specs.Steps.{joined, place_at, step_of}
-use Rattle.rad_dict.specs.Includes.{◌>>=◌, found_at, text_of, Include, went, ended, lines_read, counted, source_at, include_read, text_read, last_part, dict_from, dict_of}
-use Rattle.rad_dict.specs.TextLines.{lines_of}
+use Rattle.rad_text.specs.Read.{◌>>=◌}
+use Rattle.rad_text.specs.Lines.{lines_of}
+use Rattle.rad_text.specs.Paths.{joined, last_part, place_at}
+use Rattle.rad_text.proofs.FirstFaults.{fails_first, goes_first}
+use Rattle.rad_dict.specs.Answers.{says, IsFault, IsAnswer}
+use Rattle.rad_dict.specs.Steps.{step_of}
+use Rattle.rad_dict.specs.Includes.{found_at, text_of, Include, went, ended, lines_read, counted, source_at, include_read, text_read, dict_from, dict_of}
 use Rattle.rad_dict.specs.Definitions.{Definitions}
 use Rattle.rad_dict.proofs.Tellings.{Tells-trans}
-
--- The fault of the first of two readings is the fault of both.
-pub fails_first : {A B : Type 0} (said : Result A DictFault) (f : A → Result B DictFault) (e : DictFault) → IsFault said e → IsFault (said >>= f) e
-fails_first said f (fault.BadLine place) same = rw same refl
-fails_first said f (fault.UnknownVendor place) same = rw same refl
-fails_first said f (fault.Taken place) same = rw same refl
-fails_first said f (fault.TooDeep place) same = rw same refl
-fails_first said f (fault.Missing place) same = rw same refl
-fails_first said f (fault.TooLong place) same = rw same refl
-fails_first said f fault.ReadFault same = tt
-fails_first said f fault.NoMemory same = tt
-
--- Fault or value of the second reading.
-pub goes_first : {A B : Type 0} (said : Result A DictFault) (f : A → Result B DictFault) (x : A) → said ≡ Ok x → (said >>= f) ≡ f x
-goes_first said f x same = rw same refl
 
 -- One line, and then the others.
 pub one_line : (include : Include) (file : List ℕ) (line : ℕ) (reading : Reading) (here : List ℕ) (others : List (List ℕ))
@@ -88,7 +76,7 @@ Ends total result before now = (now ≡ before) × IsAnswer (total before.presen
 -- Before the first line.
 pub counted_fails : (include : Include) (file text : List ℕ) (reading : Reading) (e : DictFault) → IsFault (counted file text reading) e → IsFault (text_read include file text reading) e
 unfolding text_read
-counted_fails include file text reading e same = fails_first (counted file text reading) (λ (more : Reading). lines_read include file 1 more (lines_of text)) e same
+counted_fails include file text reading e same = fails_first says (counted file text reading) (λ (more : Reading). lines_read include file 1 more (lines_of text)) e same
 
 pub counted_goes : (include : Include) (file text : List ℕ) (reading more : Reading) → counted file text reading ≡ Ok more → lines_read include file 1 more (lines_of text) ≡ text_read include file text reading
 unfolding text_read
@@ -100,7 +88,7 @@ module _ (include : Include) (file : List ℕ) (line : ℕ) (reading : Reading) 
   pub line_fails : (e : DictFault) → IsFault (step_of file line reading here) e → IsFault total e
   line_fails e same =
       subst (λ (said : Result Reading DictFault). IsFault said e) (sym (one_line include file line reading here others) ∙ so_far)
-      (fails_first (step_of file line reading here) (λ (one : Step). went include one >>= (λ (next : Reading). lines_read include file (line + 1) next others)) e same)
+      (fails_first says (step_of file line reading here) (λ (one : Step). went include one >>= (λ (next : Reading). lines_read include file (line + 1) next others)) e same)
 
   goes : (one : Step) → step_of file line reading here ≡ Ok one → (went include one >>= (λ (next : Reading). lines_read include file (line + 1) next others)) ≡ total
   goes one is =
@@ -114,7 +102,7 @@ module _ (include : Include) (file : List ℕ) (line : ℕ) (reading : Reading) 
   pub include_fails : (place : Place) (path : List ℕ) (next : Reading) (e : DictFault) → step_of file line reading here ≡ Ok (step.Includes place path next) → IsFault (include place path next) e → IsFault total e
   include_fails place path next e is same =
       subst (λ (said : Result Reading DictFault). IsFault said e) (goes (step.Includes place path next) is)
-      (fails_first (include place path next) (λ (last : Reading). lines_read include file (line + 1) last others) e same)
+      (fails_first says (include place path next) (λ (last : Reading). lines_read include file (line + 1) last others) e same)
 
   pub include_goes : (place : Place) (path : List ℕ) (next last : Reading) → step_of file line reading here ≡ Ok (step.Includes place path next) → include place path next ≡ Ok last
       → lines_read include file (line + 1) last others ≡ total
@@ -126,7 +114,7 @@ module _ (files : List File) (root : List ℕ) (left : ℕ) (place : Place) (fil
   pub source_fails : (e : DictFault) → IsFault (source_at left files root place file) e → IsFault (include_read files root left place file reading) e
   source_fails e same =
       subst (λ (said : Result Reading DictFault). IsFault said e) (sym (one_include files root left place file reading))
-      (fails_first (source_at left files root place file) (λ (text : List ℕ). text_read (include_read files root (left - 1)) file text reading) e same)
+      (fails_first says (source_at left files root place file) (λ (text : List ℕ). text_read (include_read files root (left - 1)) file text reading) e same)
 
   pub source_goes : (text : List ℕ) → source_at left files root place file ≡ Ok text → include_read files root left place file reading ≡ text_read (include_read files root (left - 1)) file text reading
   source_goes text same =

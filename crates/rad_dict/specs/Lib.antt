@@ -8,12 +8,10 @@ pub mod Definitions
 pub mod Base
 pub mod EveryDictionary
 pub mod LineWords
-pub mod LineNumbers
 pub mod NameForms
 pub mod Lines
 pub mod Readings
 pub mod FirstReading
 pub mod Answers
 pub mod Steps
-pub mod TextLines
 pub mod Includes

@@ -2,14 +2,7 @@
 -- `#` begins a comment anywhere, within a word too, is this project's own.
 use Rattle.std.specs.Prelude.{ℕ, suc, Bool, true, false, ◌||◌, ◌==◌, List, [], ◌∷◌, take, drop, Option, Some, None, if◌then◌else◌}
 use Rattle.std.specs.Option.{is_none}
-
-abbrev pub is_blank : ℕ → Bool
-is_blank c = c == 32 || c == 9
-
--- What follows the blanks at the front.
-unfoldable pub after_blanks : List ℕ → List ℕ
-after_blanks [] = []
-after_blanks (c ∷ rest) = if is_blank c then after_blanks rest else c ∷ rest
+use Rattle.rad_text.specs.Blanks.{is_blank, after_blanks}
 
 -- A word ends at a blank and at a comment.
 abbrev pub ends_word : ℕ → Bool
@@ -20,10 +13,11 @@ unfoldable pub word_len : List ℕ → ℕ
 word_len [] = 0
 word_len (c ∷ rest) = if ends_word c then 0 else suc (word_len rest)
 
--- The first word, and what follows it; none where only blanks and a comment are left.
+-- The word at the front, and what follows it; none where a comment or the line's end stands there.
 abbrev pub word_behind_blanks : List ℕ → Option (List ℕ × List ℕ)
 word_behind_blanks text = if word_len text == 0 then None else Some (take (word_len text) text, drop (word_len text) text)
 
+-- The first word behind the blanks, and what follows it; none where only blanks and a comment are left.
 unfoldable pub word_at : List ℕ → Option (List ℕ × List ℕ)
 word_at text = word_behind_blanks (after_blanks text)
 

@@ -10,7 +10,8 @@ use Rattle.rad_dict.specs.declared.line.Line.TheVariants as line
 use Rattle.rad_dict.specs.declared.line.Statement as said
 use Rattle.rad_dict.specs.declared.line.Statement.TheVariants as statement
 use Rattle.rad_dict.specs.LineWords.{word_at, is_ended, last_at}
-use Rattle.rad_dict.specs.LineNumbers.{◌>>=◌, number_of}
+use Rattle.rad_text.specs.Find.{◌>>=◌}
+use Rattle.rad_text.specs.Numerals.{numeral_of}
 use Rattle.rad_dict.specs.NameForms.{is_attr_name, is_value_name}
 
 -- What a line states: nothing; an attribute by name, number and kind; a value by its attribute's name, its own name and its
@@ -37,11 +38,12 @@ IsWellNamed (vendor name number) = Unit {0}
 IsWellNamed (begins name) = Unit {0}
 IsWellNamed (ends name) = Unit {0}
 
+-- The same of a line, where it states something.
 abbrev pub IsWellNamedLine : Line → Type 0
 IsWellNamedLine (states one) = IsWellNamed one
 IsWellNamedLine (includes path) = Unit {0}
 
--- A statement and a line as they were read.
+-- A statement as it was read.
 abbrev pub statement_of : said.Statement → Statement
 statement_of statement.Nothing = nothing
 statement_of (statement.Attribute name number kind) = attribute name.now number kind
@@ -50,6 +52,7 @@ statement_of (statement.Vendor name number) = vendor name.now number
 statement_of (statement.Begin name) = begins name.now
 statement_of (statement.End name) = ends name.now
 
+-- A line as it was read.
 abbrev pub line_of : read.Line → Line
 line_of (line.States one) = states (statement_of one)
 line_of (line.Include path) = includes path.now
@@ -72,29 +75,31 @@ kind_of word =
 abbrev pub kind_with : Bool → Kind → Kind
 kind_with flagged kind = if flagged then Octets else kind
 
--- The lines by their keywords, each from behind its keyword on.
+-- `ATTRIBUTE name number kind [flags]`, from behind its keyword on, as are the others.
 unfoldable pub attribute_at : List ℕ → Option Statement
 attribute_at text = do
   name ← word_at text
   number ← word_at name.1
-  of_name ← number_of number.0
+  of_name ← numeral_of number.0
   kind ← word_at number.1
   flagged ← last_at kind.1
   if is_attr_name name.0 then Some (attribute name.0 of_name (kind_with flagged (kind_of kind.0))) else None
 
+-- `VALUE attribute name number`
 unfoldable pub value_at : List ℕ → Option Statement
 value_at text = do
   attr ← word_at text
   name ← word_at attr.1
   number ← word_at name.1
-  of_name ← number_of number.0
+  of_name ← numeral_of number.0
   if is_value_name name.0 && is_ended number.1 then Some (value attr.0 name.0 of_name) else None
 
+-- `VENDOR name number [format]`, whose format is passed over.
 unfoldable pub vendor_at : List ℕ → Option Statement
 vendor_at text = do
   name ← word_at text
   number ← word_at name.1
-  of_name ← number_of number.0
+  of_name ← numeral_of number.0
   format ← last_at number.1
   Some (vendor name.0 of_name)
 
@@ -104,10 +109,12 @@ only_word text = do
   word ← word_at text
   if is_ended word.1 then Some word.0 else None
 
+-- A line that states something, where it states anything.
 abbrev pub stating : Option Statement → Option Line
 stating None = None
 stating (Some one) = Some (states one)
 
+-- The line of a keyword, from behind it on; none where it is bad.
 unfoldable pub keyword_line : List ℕ → List ℕ → Option Line
 keyword_line keyword text =
     if is_word keyword "ATTRIBUTE" then stating (attribute_at text)
@@ -117,7 +124,7 @@ keyword_line keyword text =
     else (if is_word keyword "END-VENDOR" then only_word text >>= (λ (name : List ℕ). Some (states (ends name)))
     else (if is_word keyword "$INCLUDE" then only_word text >>= (λ (path : List ℕ). Some (includes path)) else None)))))
 
--- The line; none where it is bad.
+-- A line of a file; none where it is bad.
 unfoldable pub line_at : List ℕ → Option Line
 line_at text = elim (word_at text) [
   | None ↦ Some (states nothing)

@@ -4,7 +4,7 @@ use Rattle.std.specs.Prelude.{ℕ, Bool, not, ◌&&◌, ◌||◌, ◌==◌, List
 use Rattle.std.specs.Char.{is_ascii_alphanumeric}
 use Rattle.std.specs.List.{list_all}
 use Rattle.std.specs.Str.{str_eq_ignore_ascii_case, all_ascii_digits}
-use Rattle.rad_dict.specs.LineNumbers.{is_hexadecimal}
+use Rattle.rad_text.specs.Numerals.{is_hexadecimal}
 
 -- An ASCII letter, a digit, `-`, `_`, `.`, `/` or `+`.
 abbrev pub is_name_octet : ℕ → Bool

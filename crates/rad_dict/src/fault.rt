@@ -51,20 +51,3 @@ pub enum Wrong {
     UnknownVendor,
     Taken,
 }
-
-/// Why a statement was not taken.
-#[derive(Clone, Copy)]
-pub enum LineFault {
-    NoMemory,
-    Wrong(Wrong),
-}
-
-impl From<NoMemory> for LineFault {
-    ghost use Rattle.rad_dict.specs.declared.fault.LineFault.TheVariants as line;
-
-    ghost from_gives = { λ _ e. e ≡ line.NoMemory };
-
-    fn from(_e: NoMemory) -> LineFault {
-        LineFault::NoMemory
-    }
-}

@@ -3,15 +3,15 @@
 ghost use Rattle.std.specs.Prelude.{◌≡◌, ◌≢◌, ◌<◌, ◌≤◌, Some, length, IsErr, OnOk};
 ghost use Rattle.rad_outside.specs.Telling.{Tells, Counts};
 ghost use Rattle.rad_dict.specs.Answers.{IsAnswer};
-ghost use Rattle.rad_dict.specs.Steps.{folder, place_at};
-ghost use Rattle.rad_dict.specs.Includes.{counted, ended, source_at, include_read, text_read, last_part, dict_from, dict_of};
+ghost use Rattle.rad_text.specs.Paths.{folder, last_part, place_at};
+ghost use Rattle.rad_dict.specs.Includes.{counted, ended, source_at, include_read, text_read, dict_from, dict_of};
 
 use crate::Dict;
 use crate::fault::{DictFault, Wrong};
 use crate::reading::Reading;
-use crate::step::{Step, folder_len, joined, place_at, step_of, wrong_at};
-use crate::text_lines::first_line;
+use crate::step::{Step, step_of, wrong_at};
 use rad_outside::{Files, Found, Octets, Place};
+use rad_text::{first_line, folder_len, joined, place_at};
 use std::alloc::Global;
 use std::str;
 

@@ -7,6 +7,7 @@
 mod attr_rows;
 mod base_attributes;
 mod base_values;
+mod change;
 mod definitions;
 mod dictionary;
 mod fault;
@@ -14,13 +15,11 @@ mod including;
 mod index;
 mod keys;
 mod line;
-mod line_numbers;
 mod line_words;
 mod name_forms;
 mod reading;
 mod search;
 mod step;
-mod text_lines;
 mod value_rows;
 mod vendors;
 

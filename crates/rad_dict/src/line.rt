@@ -5,9 +5,9 @@ ghost use Rattle.std.specs.Option.{option_map};
 ghost use Rattle.std.specs.Str.{str_eq_ignore_ascii_case};
 ghost use Rattle.rad_dict.specs.Lines.{statement_of, line_of, IsWellNamed, IsWellNamedLine, kind_of, attribute_at, value_at, vendor_at, only_word, keyword_line, line_at};
 
-use crate::line_numbers::number_of;
 use crate::line_words::{is_ended, last_at, word_at};
 use crate::name_forms::{is_attr_name, is_value_name};
+use rad_text::numeral_of;
 use rad_words::Kind;
 
 /// What a line states.
@@ -69,7 +69,7 @@ fn attribute_at(text: &[u8]) -> Option<Statement>
 {
     let (name, rest) = word_at(text)?;
     let (number, rest) = word_at(rest)?;
-    let number = number_of(number)?;
+    let number = numeral_of(number)?;
     let (kind, rest) = word_at(rest)?;
     let kind = if last_at(rest)? {
         Kind::Octets
@@ -92,7 +92,7 @@ fn value_at(text: &[u8]) -> Option<Statement>
     let (attr, rest) = word_at(text)?;
     let (name, rest) = word_at(rest)?;
     let (number, rest) = word_at(rest)?;
-    let number = number_of(number)?;
+    let number = numeral_of(number)?;
     if is_value_name(name) && is_ended(rest) {
         Some(Statement::Value(attr, name, number))
     } else {
@@ -108,7 +108,7 @@ fn vendor_at(text: &[u8]) -> Option<Statement>
 {
     let (name, rest) = word_at(text)?;
     let (number, rest) = word_at(rest)?;
-    let number = number_of(number)?;
+    let number = numeral_of(number)?;
     let _format = last_at(rest)?;
     Some(Statement::Vendor(name, number))
 }

@@ -2,22 +2,9 @@
 
 ghost use Rattle.std.specs.Prelude.{◌≡◌, ◌≤◌, length};
 ghost use Rattle.std.specs.Option.{option_map};
-ghost use Rattle.rad_dict.specs.LineWords.{after_blanks, word_len, word_at, is_ended, last_at};
+ghost use Rattle.rad_dict.specs.LineWords.{word_len, word_at, is_ended, last_at};
 
-/// What follows the blanks at the front.
-#[tactic(auto, unfolding(crate::specs::LineWords::after_blanks))]
-fn after_blanks(text: &[u8]) -> &[u8]
-    ensures { result.now ≡ after_blanks text.now }
-{
-    let mut rest = text;
-    while let Some((octet, after)) = rest.split_first() {
-        if !matches!(*octet, b' ' | b'\t') {
-            break;
-        }
-        rest = after;
-    }
-    rest
-}
+use rad_text::{after_blanks, is_blank};
 
 /// The length of the word at the front.
 #[tactic(auto, unfolding(crate::specs::LineWords::word_len))]
@@ -28,7 +15,7 @@ fn word_len(text: &[u8]) -> usize
     let mut len = 0;
     let mut rest = text;
     while let Some((octet, after)) = rest.split_first() {
-        if matches!(*octet, b' ' | b'\t' | b'#') {
+        if is_blank(*octet) || *octet == b'#' {
             break;
         }
         len += 1;

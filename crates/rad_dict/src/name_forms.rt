@@ -5,7 +5,7 @@ ghost use Rattle.std.specs.List.{list_all};
 ghost use Rattle.std.specs.Str.{all_ascii_digits};
 ghost use Rattle.rad_dict.specs.NameForms.{is_name_octet, is_name, is_attr_name, is_value_name};
 
-use crate::line_numbers::is_hexadecimal;
+use rad_text::is_hexadecimal;
 
 fn is_name_octet(octet: u8) -> bool
     ensures { result ≡ is_name_octet octet }

@@ -1,13 +1,15 @@
 //! What one line of a dictionary file does.
 
-ghost use Rattle.std.specs.Prelude.{◌≡◌, ◌≢◌, ◌≤◌, length, IfOk};
+ghost use Rattle.std.specs.Prelude.{◌≡◌, ◌≢◌, IfOk};
 ghost use Rattle.rad_dict.specs.Answers.{IsAnswer};
-ghost use Rattle.rad_dict.specs.Steps.{place_at, fault_of, beside, folder_len, joined, step_of};
+ghost use Rattle.rad_text.specs.Paths.{place_at, beside};
+ghost use Rattle.rad_dict.specs.Steps.{fault_of, step_of};
 
-use crate::fault::{DictFault, LineFault, Wrong};
+use crate::fault::{DictFault, Wrong};
 use crate::line::{Line, line_at};
 use crate::reading::Reading;
 use rad_outside::{NoMemory, Octets, Place};
+use rad_text::{ReadError, beside, place_at};
 use std::alloc::Global;
 
 /// What a line does: reading goes on with what is known then, or first with a file, by the place of its
@@ -16,15 +18,6 @@ use std::alloc::Global;
 pub enum Step {
     Goes(Reading),
     Includes(Place, Octets, Reading),
-}
-
-pub fn place_at(alloc: Global, file: &[u8], line: u32) -> Result<Place, NoMemory>
-    ensures { IfOk result (λ place. place ≡ place_at file.now line) }
-{
-    Ok(Place {
-        file: Octets::of(alloc, file)?,
-        line,
-    })
 }
 
 /// The fault of what is wrong at a place.
@@ -45,42 +38,6 @@ pub fn wrong_at<T>(alloc: Global, file: &[u8], line: u32, wrong: Wrong) -> Resul
     ensures works { result ≢ Err DictFault.ReadFault }
 {
     Err(fault_of(place_at(alloc, file, line)?, wrong))
-}
-
-/// How many octets of a path name its folder, with the slash at its end.
-#[tactic(auto, unfolding(crate::specs::Steps::folder_len))]
-pub fn folder_len(path: &[u8]) -> usize
-    ensures length { result ≡ folder_len path.now }
-    ensures within { result ≤ length path.now }
-{
-    let mut len = 0;
-    for (i, octet) in path.iter().enumerate() {
-        if *octet == b'/' {
-            len = i + 1;
-        }
-    }
-    len
-}
-
-/// A path as a file includes it: beside that file, or as it stands where it begins with a slash.
-#[tactic(auto, unfolding(crate::specs::Steps::beside))]
-fn beside(alloc: Global, file: &[u8], path: &[u8]) -> Result<Octets, NoMemory>
-    ensures { IfOk result (λ octets. octets ≡ beside file.now path.now) }
-{
-    let (folder, _) = file.split_at(folder_len(file));
-    joined(alloc, folder, path)
-}
-
-/// A path below a folder, or as it stands where it begins with a slash.
-pub fn joined(alloc: Global, folder: &[u8], path: &[u8]) -> Result<Octets, NoMemory>
-    ensures { IfOk result (λ octets. octets ≡ joined folder.now path.now) }
-{
-    let mut octets = Vec::new(alloc);
-    if path.first() != Some(&b'/') {
-        octets.extend_from_slice(folder)?;
-    }
-    octets.extend_from_slice(path)?;
-    Ok(Octets::from_vec(octets))
 }
 
 /// The place of the line that includes a path, and that path beside the line's file.
@@ -116,8 +73,8 @@ pub fn step_of(
         }
         Some(Line::States(statement)) => match reading.after(alloc, statement) {
             Ok(reading) => Ok(Step::Goes(reading)),
-            Err(LineFault::NoMemory) => Err(DictFault::NoMemory),
-            Err(LineFault::Wrong(wrong)) => wrong_at(alloc, file, line, wrong),
+            Err(ReadError::NoMemory) => Err(DictFault::NoMemory),
+            Err(ReadError::Wrong(wrong)) => wrong_at(alloc, file, line, wrong),
         },
     }
 }

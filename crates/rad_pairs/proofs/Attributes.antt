@@ -14,13 +14,13 @@ use Rattle.rad_words.specs.Attribute.{same_attr}
 use Rattle.rad_dict.specs.declared.definitions.AttrDef.{AttrDef}
 use Rattle.rad_dict.specs.Definitions.{Definitions, attr_named, definition_of}
 use Rattle.rad_pairs.specs.declared.attr_reading.AttrKind.{AttrKind}
-use Rattle.rad_pairs.specs.Numerals.{digits_at, number_at}
+use Rattle.rad_text.specs.Numerals.{digits_at, number_at}
 use Rattle.rad_pairs.specs.ValueText.{numbered_text, attr_text}
 use Rattle.rad_pairs.specs.AttrNames.{numbered, kind_or_octets, named}
 use Rattle.rad_dict.specs.EveryDictionary.{IsDictionary}
 use Rattle.rad_pairs.specs.ReadingBack.{IsSpace, unnamed_kind, kind_of}
 use Rattle.rad_dict.proofs.Lookups.{find_fits, find_finds, same_itself, same_begin, attr_id, same_attr_is}
-use Rattle.rad_pairs.proofs.Decimals.{number_read, number_alone, number_again}
+use Rattle.rad_text.proofs.Decimals.{number_read, number_alone, number_again}
 use Rattle.rad_pairs.proofs.Names.{IsName, attr_name_is, decimal_octets, joined}
 
 abbrev pub attr_kind : AttrId → Kind → AttrKind

@@ -1,8 +1,6 @@
-pub mod DigitLemmas
 pub mod DigitPairs
 pub mod WordLemmas
 pub mod Turns
-pub mod Decimals
 pub mod Names
 pub mod Quoted
 pub mod Hexadecimals

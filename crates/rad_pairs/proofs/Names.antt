@@ -12,10 +12,12 @@ use Rattle.std.proofs.lemmas.Bool.Decides.{nat_tests}
 use Rattle.std.proofs.lemmas.Fmt.{decimal_is_IsNumeral}
 use Rattle.std.proofs.lemmas.List.{take_at, drop_at}
 use Rattle.std.proofs.lemmas.List.Folds.{list_all-append}
-use Rattle.rad_dict.specs.LineNumbers.{is_hexadecimal}
+use Rattle.rad_text.specs.Numerals.{is_hexadecimal}
 use Rattle.rad_dict.specs.NameForms.{is_name_octet, is_name, is_attr_name, is_value_name}
+use Rattle.rad_text.specs.Blanks.{is_blank, after_blanks}
+use Rattle.rad_text.specs.Lines.{after_line_end}
 use Rattle.rad_pairs.specs.Operators.{long_operator, short_operator, operator_at}
-use Rattle.rad_pairs.specs.Words.{is_blank, is_separator, ends_word, after_blanks, word_len, name_len, word_at}
+use Rattle.rad_pairs.specs.Words.{after_separator, ends_word, word_len, name_len, word_at}
 
 abbrev pub are_name_octets : List ℕ → Bool
 are_name_octets octets = list_all is_name_octet octets
@@ -50,10 +52,18 @@ value_name_is name e =
 is_not : (c sign : ℕ) → is_name_octet c ≡ true → is_name_octet sign ≡ false → eqb c sign ≡ false
 is_not c sign name other = ne_eqb c sign (λ e. true≢false (sym name ∙ ap is_name_octet e ∙ other))
 
-no_end : (c : ℕ) → is_name_octet c ≡ true → ends_word c ≡ false
-no_end c name =
-    or_from (is_blank c) (is_separator c) (or_from (eqb c 32) (eqb c 9) (is_not c 32 name refl) (is_not c 9 name refl))
-    (or_from (eqb c 44) (eqb c 10) (is_not c 44 name refl) (is_not c 10 name refl))
+-- It begins no line end, parts no pairs and ends no word.
+no_line_end : (c : ℕ) (more : List ℕ) → is_name_octet c ≡ true → after_line_end (c ∷ more) ≡ None
+unfolding after_line_end
+no_line_end c more name = rw (is_not c 10 name refl, is_not c 13 name refl, after_line_end) refl
+
+no_separator : (c : ℕ) (more : List ℕ) → is_name_octet c ≡ true → after_separator (c ∷ more) ≡ None
+no_separator c more name = rw (is_not c 44 name refl, no_line_end c more name) refl
+
+no_end : (c : ℕ) (more : List ℕ) → is_name_octet c ≡ true → ends_word (c ∷ more) ≡ false
+no_end c more name =
+    or_from (is_blank c) (is_some (after_separator (c ∷ more))) (or_from (eqb c 32) (eqb c 9) (is_not c 32 name refl) (is_not c 9 name refl))
+    (ap is_some (no_separator c more name))
 
 and-false : (b : Bool) → (b && false) ≡ false
 and-false true = refl
@@ -86,7 +96,7 @@ unfolding name_len
 name_len_is [] more all = refl
 name_len_is (c ∷ name) more all =
     let parts = and_parts (is_name_octet c) (are_name_octets name) all in
-    let goes : (ends_word c || is_some (operator_at (c ∷ (name ++ 32 ∷ more)))) ≡ false = or_from (ends_word c) (is_some (operator_at (c ∷ (name ++ 32 ∷ more)))) (no_end c parts.0) (no_operator c (name ++ 32 ∷ more) parts.0 (next_octet name more parts.1)) in
+    let goes : (ends_word (c ∷ (name ++ 32 ∷ more)) || is_some (operator_at (c ∷ (name ++ 32 ∷ more)))) ≡ false = or_from (ends_word (c ∷ (name ++ 32 ∷ more))) (is_some (operator_at (c ∷ (name ++ 32 ∷ more)))) (no_end c (name ++ 32 ∷ more) parts.0) (no_operator c (name ++ 32 ∷ more) parts.0 (next_octet name more parts.1)) in
     cond-false _ _ _ goes ∙ ap suc (name_len_is name more parts.1)
 
 word_len_is : (word tail : List ℕ) → are_name_octets word ≡ true → word_len tail ≡ 0 → word_len (word ++ tail) ≡ length word
@@ -94,7 +104,7 @@ unfolding word_len
 word_len_is [] tail all ends = ends
 word_len_is (c ∷ word) tail all ends =
     let parts = and_parts (is_name_octet c) (are_name_octets word) all in
-    cond-false _ _ _ (no_end c parts.0) ∙ ap suc (word_len_is word tail parts.1 ends)
+    cond-false _ _ _ (no_end c (word ++ tail) parts.0) ∙ ap suc (word_len_is word tail parts.1 ends)
 
 -- A name is a bare word.
 pub word_is : (word tail : List ℕ) → IsName word → word_len tail ≡ 0 → word_at (word ++ tail) ≡ Some (word, tail)
@@ -112,11 +122,12 @@ no_blanks (c ∷ rest) more name =
     let first = (and_parts (is_name_octet c) (are_name_octets rest) name.1).0 in
     cond-false _ _ _ (or_from (eqb c 32) (eqb c 9) (is_not c 32 first refl) (is_not c 9 first refl))
 
--- A name is no separator's beginning.
-pub no_separator : (c : ℕ) (rest : List ℕ) → IsName (c ∷ rest) → is_separator c ≡ false
-no_separator c rest name =
-    let first = (and_parts (is_name_octet c) (are_name_octets rest) name.1).0 in
-    or_from (eqb c 44) (eqb c 10) (is_not c 44 first refl) (is_not c 10 first refl)
+-- A name stands on its line, and is no separator.
+pub names_line : (c : ℕ) (rest more : List ℕ) → IsName (c ∷ rest) → after_line_end (c ∷ more) ≡ None
+names_line c rest more name = no_line_end c more (and_parts (is_name_octet c) (are_name_octets rest) name.1).0
+
+pub no_separator_at : (c : ℕ) (rest more : List ℕ) → IsName (c ∷ rest) → after_separator (c ∷ more) ≡ None
+no_separator_at c rest more name = no_separator c more (and_parts (is_name_octet c) (are_name_octets rest) name.1).0
 
 pub joined : (a b : List ℕ) → are_name_octets a ≡ true → are_name_octets b ≡ true → are_name_octets (a ++ b) ≡ true
 joined a b first second = list_all-append is_name_octet a b ∙ and_from (are_name_octets a) (are_name_octets b) first second

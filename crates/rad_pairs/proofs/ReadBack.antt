@@ -1,5 +1,5 @@
 -- A pair that is printed is read again.
-use Rattle.std.proofs.Common.{◌≡◌, ℕ, zero, suc, ◌<◌, ◌≤◌, false, eqb, List, [], ◌∷◌, ◌++◌, length, map, Some, Ok, refl, sym, ap, append_assoc, ◌∙◌, arith}
+use Rattle.std.proofs.Common.{◌≡◌, ℕ, zero, suc, ◌<◌, ◌≤◌, false, eqb, List, [], ◌∷◌, ◌++◌, length, map, Some, Result, Ok, refl, sym, ap, append_assoc, ◌∙◌, arith}
 use Rattle.std.proofs.lemmas.Bool.{or_parts}
 use Rattle.std.proofs.lemmas.List.{take_at, drop_at, append-nil, length-append}
 use Rattle.rad_words.specs.declared.attributes.AttrId.{AttrId}
@@ -9,19 +9,27 @@ use Rattle.rad_value.specs.declared.values.Value.TheVariants as value
 use Rattle.rad_value.specs.declared.values.Pair.{Pair}
 use Rattle.rad_dict.specs.Definitions.{Definitions}
 use Rattle.rad_pairs.specs.declared.attr_reading.AttrKind.{AttrKind}
+use Rattle.rad_text.specs.Read.{◌>>=◌}
+use Rattle.rad_pairs.specs.declared.fault.Wrong.{Wrong}
+use Rattle.rad_pairs.specs.declared.fault.Wrong.TheVariants.{BadValue}
 use Rattle.rad_pairs.specs.declared.items.Item.{Item}
 use Rattle.rad_pairs.specs.declared.items.PairOp.TheVariants as op
 use Rattle.rad_pairs.specs.ValueText.{quoted, attr_text, value_text, pair_text}
 use Rattle.rad_pairs.specs.AttrNames.{named}
 use Rattle.rad_pairs.specs.ValueReading.{value_of}
 use Rattle.rad_pairs.specs.Operators.{long_operator, short_operator, operator_at}
-use Rattle.rad_pairs.specs.Words.{after_blanks, word_len}
+use Rattle.rad_text.specs.Blanks.{after_blanks}
+use Rattle.rad_text.specs.Lines.{after_line_end}
+use Rattle.rad_text.specs.Parts.{parts_in}
+use Rattle.rad_text.proofs.Turns as turns
+use Rattle.rad_pairs.specs.Words.{word_len}
 use Rattle.rad_pairs.specs.PairParts.{separated, operator_of, value_at}
-use Rattle.rad_pairs.specs.Items.{pair_at, part_at, pairs_in, placed, items_of}
+use Rattle.rad_pairs.specs.Items.{pair_at, part_behind_blanks, part_at, listed, placed, items_of}
 use Rattle.rad_dict.specs.EveryDictionary.{IsDictionary}
 use Rattle.rad_value.specs.Kinds.{kind_of_value}
 use Rattle.rad_pairs.specs.ReadingBack.{AreOctets, IsOfKind, AreOfKind, InRange, item_of, lines_text}
-use Rattle.rad_pairs.proofs.Names.{IsName, name_len_is, word_is, no_blanks, no_separator}
+use Rattle.rad_pairs.proofs.Names.{IsName, name_len_is, word_is, no_blanks, names_line, no_separator_at}
+use Rattle.rad_pairs.proofs.Turns.{part}
 use Rattle.rad_pairs.proofs.Quoted.{quoted_read}
 use Rattle.rad_pairs.proofs.Attributes.{attr_kind, attr_again}
 use Rattle.rad_pairs.proofs.Values.{IsNoText, value_again}
@@ -36,7 +44,7 @@ unfolding word_len after_blanks
 text_ends = record { word = refl; parts = refl }
 
 line_ends : (more : List ℕ) → Ends (10 ∷ more) more
-unfolding word_len after_blanks
+unfolding word_len after_blanks after_line_end
 line_ends more = record { word = refl; parts = refl }
 
 -- What stands behind the operator: a value, and what ends its pair.
@@ -49,11 +57,11 @@ unfolding value_at
 name_alone attr v [] tail rest dict ends name e = absurd (omega (arith, name.0))
 name_alone attr v (c ∷ text) tail rest dict ends name e = record {
   begins = no_blanks (c ∷ text) tail name;
-  reads = rw (word_is (c ∷ text) tail name ends.word, no_separator c text name, e, ends.parts) refl;
+  reads = rw (word_is (c ∷ text) tail name ends.word, no_separator_at c text (text ++ tail) name, e, ends.parts) refl;
 }
 
 quoted_alone : (attr : AttrId) (text tail rest : List ℕ) (dict : Definitions) → Ends tail rest → AreOctets text → Alone (attr_kind attr kind.Text) (value.Text text) (quoted text) tail rest dict
-unfolding quoted value_at after_blanks
+unfolding quoted value_at after_blanks after_line_end
 quoted_alone attr text tail rest dict ends all = record { begins = refl; reads = rw (quoted_read text tail all, ends.parts) refl }
 
 printed_alone : (attr : AttrId) (v : Value) (tail rest : List ℕ) (dict : Definitions) → Ends tail rest → IsDictionary dict → InRange v → IsNoText v → Alone (attr_kind attr (kind_of_value v)) v (value_text attr v dict) tail rest dict
@@ -97,8 +105,8 @@ part_read : (name : List ℕ) (attr : AttrKind) (v : Value) (text tail rest : Li
 unfolding part_at
 part_read [] attr v text tail rest dict is e alone = absurd (omega (arith, is.0))
 part_read (c ∷ name) attr v text tail rest dict is e alone =
-    let no_line : eqb c 10 ≡ false = (or_parts (eqb c 44) (eqb c 10) (no_separator c name is)).1 in
-    rw (no_blanks (c ∷ name) (32 ∷ 61 ∷ 32 ∷ (text ++ tail)) is, no_line, pair_read (c ∷ name) attr v text tail rest dict is e alone) refl
+    let value = 32 ∷ 61 ∷ 32 ∷ (text ++ tail) in
+    rw (no_blanks (c ∷ name) value is, names_line c name (name ++ value) is, part_behind_blanks, pair_read (c ∷ name) attr v text tail rest dict is e alone) refl
 
 -- A pair in print is a part of a text, whatever ends it.
 printed_read : (pair : Pair) (tail rest : List ℕ) (dict : Definitions) → Ends tail rest → IsDictionary dict → IsOfKind pair dict → part_at (pair_text pair dict ++ tail) dict ≡ Ok (Some (item_of pair), rest)
@@ -113,40 +121,43 @@ printed_read pair tail rest dict ends plain fits =
 printed_long : (pair : Pair) (dict : Definitions) → 0 < length (pair_text pair dict)
 printed_long pair dict = omega (arith, length-append (attr_text pair.attr dict) (32 ∷ 61 ∷ 32 ∷ value_text pair.attr pair.value dict))
 
-first_read : (turns : ℕ) (text : List ℕ) (one : Item) (rest : List ℕ) (items : List Item) (dict : Definitions) → 0 < length text → part_at text dict ≡ Ok (Some one, rest)
-    → pairs_in turns rest dict ≡ Ok items → pairs_in (suc turns) text dict ≡ Ok (one ∷ items)
-unfolding pairs_in
-first_read turns [] one rest items dict long e others = absurd (omega arith)
-first_read turns (c ∷ text) one rest items dict long e others = rw (e, pairs_in) (rw others refl)
+-- The items of a text in so many turns.
+abbrev pub items_in : ℕ → List ℕ → Definitions → Result (List Item) Wrong
+items_in turns text dict = listed (parts_in (part dict) (BadValue 0) turns text)
 
-none_left : (turns : ℕ) (dict : Definitions) → pairs_in turns [] dict ≡ Ok []
-unfolding pairs_in
-none_left turns dict = refl
+first_read : (left : ℕ) (text : List ℕ) (one : Item) (rest : List ℕ) (items : List Item) (dict : Definitions) → 0 < length text → part_at text dict ≡ Ok (Some one, rest)
+    → items_in left rest dict ≡ Ok items → items_in (suc left) text dict ≡ Ok (one ∷ items)
+first_read left [] one rest items dict long e others = absurd (omega arith)
+first_read left (c ∷ text) one rest items dict long e others =
+    ap listed (turns.first_part (part dict) (BadValue 0) left c text (Some one) rest e) ∙ ap (λ read. read >>= λ others. Ok (one ∷ others)) others
 
-line_read : (turns : ℕ) (pair : Pair) (more : List ℕ) (items : List Item) (dict : Definitions) → IsDictionary dict → IsOfKind pair dict → length (pair_text pair dict ++ 10 ∷ more) ≤ turns
-    → ((left : ℕ) → length more ≤ left → pairs_in left more dict ≡ Ok items) → pairs_in turns (pair_text pair dict ++ 10 ∷ more) dict ≡ Ok (item_of pair ∷ items)
+pub none_left : (left : ℕ) (dict : Definitions) → items_in left [] dict ≡ Ok []
+none_left left dict = ap listed (turns.no_parts (part dict) (BadValue 0) left)
+
+line_read : (left : ℕ) (pair : Pair) (more : List ℕ) (items : List Item) (dict : Definitions) → IsDictionary dict → IsOfKind pair dict → length (pair_text pair dict ++ 10 ∷ more) ≤ left
+    → ((left : ℕ) → length more ≤ left → items_in left more dict ≡ Ok items) → items_in left (pair_text pair dict ++ 10 ∷ more) dict ≡ Ok (item_of pair ∷ items)
 line_read zero pair more items dict plain fits enough later = absurd (omega (arith, length-append (pair_text pair dict) (10 ∷ more)))
-line_read (suc turns) pair more items dict plain fits enough later =
-    first_read turns (pair_text pair dict ++ 10 ∷ more) (item_of pair) more items dict (omega (arith, length-append (pair_text pair dict) (10 ∷ more)))
-    (printed_read pair (10 ∷ more) more dict (line_ends more) plain fits) (later turns (omega (arith, length-append (pair_text pair dict) (10 ∷ more))))
+line_read (suc left) pair more items dict plain fits enough later =
+    first_read left (pair_text pair dict ++ 10 ∷ more) (item_of pair) more items dict (omega (arith, length-append (pair_text pair dict) (10 ∷ more)))
+    (printed_read pair (10 ∷ more) more dict (line_ends more) plain fits) (later left (omega (arith, length-append (pair_text pair dict) (10 ∷ more))))
 
-lines_read : (pairs : List Pair) (dict : Definitions) → IsDictionary dict → AreOfKind pairs dict → (turns : ℕ) → length (lines_text pairs dict) ≤ turns → pairs_in turns (lines_text pairs dict) dict ≡ Ok (map item_of pairs)
-lines_read [] dict plain fits turns enough = none_left turns dict
-lines_read (pair ∷ pairs) dict plain fits turns enough =
+lines_read : (pairs : List Pair) (dict : Definitions) → IsDictionary dict → AreOfKind pairs dict → (left : ℕ) → length (lines_text pairs dict) ≤ left → items_in left (lines_text pairs dict) dict ≡ Ok (map item_of pairs)
+lines_read [] dict plain fits left enough = none_left left dict
+lines_read (pair ∷ pairs) dict plain fits left enough =
     let text : lines_text (pair ∷ pairs) dict ≡ pair_text pair dict ++ 10 ∷ lines_text pairs dict = append_assoc (pair_text pair dict) (10 ∷ []) (lines_text pairs dict) in
-    ap (λ (t : List ℕ). pairs_in turns t dict) text
-    ∙ line_read turns pair (lines_text pairs dict) (map item_of pairs) dict plain fits.0 (omega (arith, ap length text)) (λ left more. lines_read pairs dict plain fits.1 left more)
+    ap (λ (t : List ℕ). items_in left t dict) text
+    ∙ line_read left pair (lines_text pairs dict) (map item_of pairs) dict plain fits.0 (omega (arith, ap length text)) (λ left more. lines_read pairs dict plain fits.1 left more)
 
 pub lines_back : (pairs : List Pair) (dict : Definitions) → IsDictionary dict → AreOfKind pairs dict → items_of (lines_text pairs dict) dict ≡ Ok (map item_of pairs)
 unfolding items_of
-lines_back pairs dict plain fits = rw (lines_read pairs dict plain fits (length (lines_text pairs dict)) (omega arith)) refl
+lines_back pairs dict plain fits = ap (placed (lines_text pairs dict)) (lines_read pairs dict plain fits (length (lines_text pairs dict)) (omega arith))
 
 pub read_back : (pair : Pair) (dict : Definitions) → IsDictionary dict → IsOfKind pair dict → items_of (pair_text pair dict) dict ≡ Ok (item_of pair ∷ [])
 unfolding items_of
 read_back pair dict plain fits =
-    let part : part_at (pair_text pair dict) dict ≡ Ok (Some (item_of pair), []) = ap (λ (t : List ℕ). part_at t dict) (sym (append-nil (pair_text pair dict))) ∙ printed_read pair [] [] dict text_ends plain fits in
-    whole (length (pair_text pair dict)) (printed_long pair dict) part
+    let one : part_at (pair_text pair dict) dict ≡ Ok (Some (item_of pair), []) = ap (λ (t : List ℕ). part_at t dict) (sym (append-nil (pair_text pair dict))) ∙ printed_read pair [] [] dict text_ends plain fits in
+    whole (length (pair_text pair dict)) (printed_long pair dict) one
   where
-    whole : (turns : ℕ) → 0 < turns → part_at (pair_text pair dict) dict ≡ Ok (Some (item_of pair), []) → placed (pair_text pair dict) (pairs_in turns (pair_text pair dict) dict) ≡ Ok (item_of pair ∷ [])
+    whole : (left : ℕ) → 0 < left → part_at (pair_text pair dict) dict ≡ Ok (Some (item_of pair), []) → placed (pair_text pair dict) (items_in left (pair_text pair dict) dict) ≡ Ok (item_of pair ∷ [])
     whole zero long part = absurd (omega arith)
-    whole (suc turns) long part = rw (first_read turns (pair_text pair dict) (item_of pair) [] [] dict (printed_long pair dict) part (none_left turns dict)) refl
+    whole (suc left) long part = ap (placed (pair_text pair dict)) (first_read left (pair_text pair dict) (item_of pair) [] [] dict (printed_long pair dict) part (none_left left dict))

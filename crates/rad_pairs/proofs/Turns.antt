@@ -1,83 +1,62 @@
 -- The pairs of a text, one part at a time.
-use Rattle.std.proofs.Common.{◌≡◌, ℕ, zero, suc, ◌<◌, ◌≤◌, List, [], ◌∷◌, ◌++◌, length, Option, Result, Ok, Err, refl, sym, ap, ◌∙◌, append_assoc, arith}
+use Rattle.std.proofs.Common.{◌≡◌, ℕ, ◌<◌, List, [], ◌∷◌, ◌++◌, length, Option, Result, Ok, Err, refl, sym, ap, ◌∙◌, append_assoc}
 use Rattle.std.proofs.lemmas.List.{append-nil}
 use Rattle.std.specs.Option.{option_to_list}
+use Rattle.rad_text.specs.declared.read.ReadError.{ReadError}
+use Rattle.rad_text.specs.declared.read.ReadError.TheVariants as errors
+use Rattle.rad_text.specs.Read.{◌>>=◌, Fails}
+use Rattle.rad_text.specs.Answers.{IsFault}
+use Rattle.rad_text.proofs.Turns as turns
 use Rattle.rad_dict.specs.Definitions.{Definitions}
 use Rattle.rad_pairs.specs.declared.items.Item.{Item}
 use Rattle.rad_pairs.specs.declared.fault.Wrong.{Wrong}
-use Rattle.rad_pairs.specs.declared.fault.PartError.{PartError}
-use Rattle.rad_pairs.specs.declared.fault.PartError.TheVariants as errors
 use Rattle.rad_pairs.specs.declared.fault.Wrong.TheVariants.{UnknownAttr, BadOperator, BadValue}
-use Rattle.rad_pairs.specs.Items.{◌>>=◌, part_at, pairs_in, Fails, fault_at, items_of, IsFault}
+use Rattle.rad_pairs.specs.Items.{part_at, listed, pairs_of, fault_at, items_of, says}
 
 abbrev with_front : List Item → Result (List Item) Wrong → Result (List Item) Wrong
 with_front front read = read >>= λ items. Ok (front ++ items)
 
+-- What is said of the parts that are left: the items that were read, and then theirs.
+abbrev behind : List Item → List (Result (Option Item) Wrong) → Result (List Item) Wrong
+behind front parts = with_front front (listed parts)
+
+abbrev pub part : Definitions → List ℕ → Result (Option Item × List ℕ) Wrong
+part dict text = part_at text dict
+
 -- With turns enough for what is left of a text, what was read and the pairs that are left are the whole.
-pub record Enough (front : List Item) (text : List ℕ) (dict : Definitions) (total : Result (List Item) Wrong) : Type 0 where
-  pub turns : ℕ
-  pub enough : length text ≤ turns
-  pub same : with_front front (pairs_in turns text dict) ≡ total
+abbrev pub Enough : List Item → List ℕ → Definitions → Result (List Item) Wrong → Type 0
+Enough front text dict total = turns.Enough (part dict) (BadValue 0) (behind front) text total
 
 with_none : (read : Result (List Item) Wrong) → with_front [] read ≡ read
 with_none (Ok items) = refl
 with_none (Err wrong) = refl
 
-pub starts : (text : List ℕ) (dict : Definitions) → Enough [] text dict (pairs_in (length text) text dict)
-starts text dict = record { turns = length text; enough = omega arith; same = with_none (pairs_in (length text) text dict) }
+pub starts : (text : List ℕ) (dict : Definitions) → Enough [] text dict (pairs_of text dict)
+starts text dict = let all = turns.starts (part dict) (BadValue 0) (behind []) text in record { turns = all.turns; enough = all.enough; same = all.same ∙ with_none (pairs_of text dict) }
 
-regroup : (front added : List Item) (read : Result (List Item) Wrong) → with_front front (read >>= λ others. Ok (added ++ others)) ≡ with_front (front ++ added) read
-regroup front added (Ok items) = ap Ok (sym (append_assoc front added items))
+regroup : (front added : List Item) (read : Result (List Item) Wrong) → with_front (front ++ added) read ≡ with_front front (read >>= λ others. Ok (added ++ others))
+regroup front added (Ok items) = ap Ok (append_assoc front added items)
 regroup front added (Err wrong) = refl
-
-first_part : (turns : ℕ) (c : ℕ) (rest : List ℕ) (dict : Definitions) (item : Option Item) (after : List ℕ) → part_at (c ∷ rest) dict ≡ Ok (item, after)
-    → pairs_in (suc turns) (c ∷ rest) dict ≡ (pairs_in turns after dict >>= λ others. Ok (option_to_list item ++ others))
-unfolding pairs_in
-first_part turns c rest dict item after e = rw (e, pairs_in) refl
-
-first_wrong : (turns : ℕ) (c : ℕ) (rest : List ℕ) (dict : Definitions) (wrong : Wrong) → part_at (c ∷ rest) dict ≡ Err wrong → pairs_in (suc turns) (c ∷ rest) dict ≡ Err wrong
-unfolding pairs_in
-first_wrong turns c rest dict wrong e = rw (e, pairs_in) refl
-
-no_parts : (turns : ℕ) (dict : Definitions) → pairs_in turns [] dict ≡ Ok []
-unfolding pairs_in
-no_parts turns dict = refl
 
 pub goes_on : (front : List Item) (text : List ℕ) (dict : Definitions) (total : Result (List Item) Wrong) (item : Option Item) (after : List ℕ) → 0 < length text → part_at text dict ≡ Ok (item, after)
     → length after < length text → Enough front text dict total → Enough (front ++ option_to_list item) after dict total
-goes_on front [] dict total item after long e shorter so_far = absurd (omega arith)
-goes_on front (c ∷ rest) dict total item after long e shorter so_far = going so_far.turns so_far.enough so_far.same where
-  going : (turns : ℕ) → length (c ∷ rest) ≤ turns → with_front front (pairs_in turns (c ∷ rest) dict) ≡ total → Enough (front ++ option_to_list item) after dict total
-  going zero enough same = absurd (omega arith)
-  going (suc turns) enough same = record {
-    turns = turns;
-    enough = omega arith;
-    same = sym (regroup front (option_to_list item) (pairs_in turns after dict)) ∙ ap (with_front front) (sym (first_part turns c rest dict item after e)) ∙ same;
-  }
+goes_on front text dict total item after long e shorter so_far =
+    turns.goes_on (part dict) (BadValue 0) (behind front) (behind (front ++ option_to_list item)) text total item after long e shorter (λ more. regroup front (option_to_list item) (listed more)) so_far
 
-goes_wrong : (front : List Item) (text : List ℕ) (dict : Definitions) (total : Result (List Item) Wrong) (wrong : Wrong) → 0 < length text → part_at text dict ≡ Err wrong
-    → Enough front text dict total → total ≡ Err wrong
-goes_wrong front [] dict total wrong long e so_far = absurd (omega arith)
-goes_wrong front (c ∷ rest) dict total wrong long e so_far = going so_far.turns so_far.enough so_far.same where
-  going : (turns : ℕ) → length (c ∷ rest) ≤ turns → with_front front (pairs_in turns (c ∷ rest) dict) ≡ total → total ≡ Err wrong
-  going zero enough same = absurd (omega arith)
-  going (suc turns) enough same = sym same ∙ ap (with_front front) (first_wrong turns c rest dict wrong e)
-
-pub ends : (front : List Item) (text : List ℕ) (dict : Definitions) (total : Result (List Item) Wrong) (error : PartError) → 0 < length text → Fails error (part_at text dict)
+pub ends : (front : List Item) (text : List ℕ) (dict : Definitions) (total : Result (List Item) Wrong) (error : ReadError Wrong) → 0 < length text → Fails error (part_at text dict)
     → Enough front text dict total → Fails error total
 ends front text dict total errors.NoMemory long e so_far = tt
-ends front text dict total (errors.Wrong wrong) long e so_far = goes_wrong front text dict total wrong long e so_far
+ends front text dict total (errors.Wrong wrong) long e so_far = sym (turns.goes_wrong (part dict) (BadValue 0) (behind front) text total wrong long e so_far)
 
 pub is_done : (front : List Item) (text : List ℕ) (dict : Definitions) (total : Result (List Item) Wrong) → length text ≡ 0 → Enough front text dict total → total ≡ Ok front
-is_done front [] dict total none so_far = sym so_far.same ∙ ap (with_front front) (no_parts so_far.turns dict) ∙ ap Ok (append-nil front)
-is_done front (c ∷ rest) dict total none so_far = absurd (omega arith)
+is_done front text dict total none so_far = sym (turns.is_done (part dict) (BadValue 0) (behind front) text total none so_far) ∙ ap Ok (append-nil front)
 
 -- What is said of a whole text, from its pairs.
-pub said_items : (text : List ℕ) (dict : Definitions) (items : List Item) → pairs_in (length text) text dict ≡ Ok items → items_of text dict ≡ Ok items
+pub said_items : (text : List ℕ) (dict : Definitions) (items : List Item) → pairs_of text dict ≡ Ok items → items_of text dict ≡ Ok items
 unfolding items_of
 said_items text dict items e = rw e refl
 
-pub said_fault : (text : List ℕ) (dict : Definitions) (error : PartError) → Fails error (pairs_in (length text) text dict) → IsFault (items_of text dict) (fault_at text error)
+pub said_fault : (text : List ℕ) (dict : Definitions) (error : ReadError Wrong) → Fails error (pairs_of text dict) → IsFault says (items_of text dict) (fault_at text error)
 unfolding items_of
 said_fault text dict errors.NoMemory e = tt
 said_fault text dict (errors.Wrong (UnknownAttr left)) e = rw e refl

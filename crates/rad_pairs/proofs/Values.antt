@@ -16,17 +16,19 @@ use Rattle.rad_value.specs.declared.values.Value.{Value}
 use Rattle.rad_value.specs.declared.values.Value.TheVariants as value
 use Rattle.rad_dict.specs.declared.definitions.ValueDef.{ValueDef}
 use Rattle.rad_dict.specs.Definitions.{Definitions, is_name_of, is_number_of, name_of, number_of}
-use Rattle.rad_pairs.specs.Numerals.{◌>>=◌, numeral_of}
+use Rattle.rad_text.specs.Find.{◌>>=◌}
+use Rattle.rad_text.specs.Numerals.{numeral_of}
 use Rattle.rad_pairs.specs.ValueText.{number_text, value_text}
 use Rattle.rad_pairs.specs.ValueReading.{number_in, byte_of, short_of, value_of}
 use Rattle.rad_dict.specs.EveryDictionary.{IsDictionary}
 use Rattle.rad_value.specs.Kinds.{kind_of_value}
 use Rattle.rad_pairs.specs.ReadingBack.{InRange}
 use Rattle.rad_dict.proofs.Lookups.{find_fits, find_finds, same_itself, same_lower, same_attr_is}
-use Rattle.rad_pairs.proofs.Decimals.{number_again}
+use Rattle.rad_text.proofs.Decimals.{number_again}
+use Rattle.rad_text.proofs.AddressLaws.{address_again}
 use Rattle.rad_pairs.proofs.Names.{IsName, value_name_is, digit_range, decimal_name, no_hexadecimal}
 use Rattle.rad_pairs.proofs.Hexadecimals.{octets_again, hexadecimal_name}
-use Rattle.rad_pairs.proofs.Addresses.{address_again, address_name}
+use Rattle.rad_pairs.proofs.Addresses.{address_name}
 
 -- A name that is the same as digits, case aside, is those digits.
 same_digit : (c d : ℕ) → (48 ≤ d) × (d < 58) → to_ascii_lowercase c ≡ to_ascii_lowercase d → c ≡ d

@@ -1,7 +1,7 @@
 -- Words that are read one octet at a time.
 use Rattle.std.proofs.Common.{◌≡◌, ℕ, zero, suc, ◌+◌, false, eqb, List, [], ◌∷◌, ◌++◌, take, drop, Option, Some, None, add-one, refl, sym, ap, ◌∙◌, append_assoc}
 use Rattle.std.proofs.lemmas.Bool.{cond-false}
-use Rattle.rad_pairs.specs.Words.{behind, escape_len, escape_value, single_quoted, double_quoted}
+use Rattle.rad_pairs.specs.Words.{behind, written, single_quoted, double_quoted}
 
 -- These octets before what is read from a text.
 abbrev pub in_front : List ℕ → Option (List ℕ × List ℕ) → Option (List ℕ × List ℕ)
@@ -28,12 +28,12 @@ passed (suc n) [] = refl
 passed (suc n) (c ∷ rest) = passed n rest
 
 pub double_goes_on : (front : List ℕ) (c : ℕ) (rest : List ℕ) → eqb c 34 ≡ false → eqb c 10 ≡ false
-    → in_front front (double_quoted 0 (c ∷ rest)) ≡ in_front (front ++ escape_value c rest ∷ []) (double_quoted 0 (drop (escape_len c rest) rest))
+    → in_front front (double_quoted 0 (c ∷ rest)) ≡ in_front (front ++ (written c rest).0 ∷ []) (double_quoted 0 (drop (written c rest).1 rest))
 unfolding double_quoted
 double_goes_on front c rest quote line =
     ap (in_front front) (cond-false _ _ _ quote ∙ cond-false _ _ _ line)
-    ∙ in_front-behind front (escape_value c rest) (double_quoted (escape_len c rest) rest)
-    ∙ ap (in_front (front ++ escape_value c rest ∷ [])) (passed (escape_len c rest) rest)
+    ∙ in_front-behind front (written c rest).0 (double_quoted (written c rest).1 rest)
+    ∙ ap (in_front (front ++ (written c rest).0 ∷ [])) (passed (written c rest).1 rest)
 
 -- One octet further in a text.
 pub take_next : (n : ℕ) (text : List ℕ) (c : ℕ) (rest : List ℕ) → drop n text ≡ c ∷ rest → take (n + 1) text ≡ take n text ++ c ∷ []

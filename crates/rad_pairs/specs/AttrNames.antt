@@ -9,7 +9,8 @@ use Rattle.rad_words.specs.declared.attributes.Kind.{Kind}
 use Rattle.rad_words.specs.declared.attributes.Kind.TheVariants.{Octets}
 use Rattle.rad_dict.specs.Definitions.{Definitions, attr_named, definition_of}
 use Rattle.rad_pairs.specs.declared.attr_reading.AttrKind.{AttrKind}
-use Rattle.rad_pairs.specs.Numerals.{◌>>=◌, number_at, number_of}
+use Rattle.rad_text.specs.Find.{◌>>=◌}
+use Rattle.rad_text.specs.Numerals.{number_at, number_of}
 
 -- The vendor's attribute of this number, 255 at most.
 abbrev pub vendor_attr : ℕ → ℕ → Option AttrId

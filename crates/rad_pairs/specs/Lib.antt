@@ -1,10 +1,8 @@
-pub mod Numerals
 pub mod ValueText
 pub mod AttrNames
 pub mod ValueReading
 pub mod Operators
 pub mod Words
-pub mod Spots
 pub mod PairParts
 pub mod Items
 pub mod ReadingBack

@@ -1,7 +1,7 @@
 -- The operator and the value of a pair. After users(5); that what `=*` and `!*` have is passed over is this
 -- project's own.
 use Rattle.std.specs.Prelude.{ℕ, Bool, true, List, [], ◌∷◌, Option, Some, None, if◌then◌else◌}
-use Rattle.std.specs.Option.{option_map}
+use Rattle.std.specs.Option.{is_some, option_map}
 use Rattle.rad_value.specs.declared.values.Value.{Value}
 use Rattle.rad_value.specs.declared.values.Value.TheVariants as value
 use Rattle.rad_dict.specs.Definitions.{Definitions}
@@ -10,15 +10,16 @@ use Rattle.rad_pairs.specs.declared.items.PairOp.{PairOp}
 use Rattle.rad_pairs.specs.declared.items.PairOp.TheVariants as op
 use Rattle.rad_pairs.specs.declared.operators.Operator.{Operator}
 use Rattle.rad_pairs.specs.declared.operators.Operator.TheVariants.{OfPair, Remove}
-use Rattle.rad_pairs.specs.Numerals.{◌>>=◌}
+use Rattle.rad_text.specs.Find.{◌>>=◌}
+use Rattle.rad_text.specs.Blanks.{after_blanks}
 use Rattle.rad_pairs.specs.ValueReading.{value_of}
 use Rattle.rad_pairs.specs.Operators.{operator_at}
-use Rattle.rad_pairs.specs.Words.{after_blanks, is_separator, word_at}
+use Rattle.rad_pairs.specs.Words.{after_separator, word_at}
 
 -- No value stands where a comma, a line end or the text's end does.
 abbrev pub is_missing : List ℕ → Bool
 is_missing [] = true
-is_missing (c ∷ rest) = is_separator c
+is_missing (c ∷ rest) = is_some (after_separator (c ∷ rest))
 
 -- A word that is read for the attribute, and a word that is a pattern: both have to be there.
 abbrev pub value_in : AttrKind → Option (List ℕ) → Definitions → Option Value
@@ -46,7 +47,7 @@ value_behind op.None attr word dict = Some (value.Text [])
 -- What follows a pair, from behind its blanks on: a comma or a line end, which are passed, or the text's end.
 abbrev pub separated : List ℕ → Option (List ℕ)
 separated [] = Some []
-separated (c ∷ rest) = if is_separator c then Some rest else None
+separated (c ∷ rest) = after_separator (c ∷ rest)
 
 -- The value at the front and what follows its pair.
 unfoldable pub value_at : PairOp → AttrKind → List ℕ → Definitions → Option (Value × List ℕ)

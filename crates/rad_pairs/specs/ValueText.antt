@@ -12,6 +12,7 @@ use Rattle.rad_value.specs.declared.values.Value.{Value}
 use Rattle.rad_value.specs.declared.values.Value.TheVariants as value
 use Rattle.rad_value.specs.declared.values.Pair.{Pair}
 use Rattle.rad_dict.specs.Definitions.{Definitions, definition_of, name_of}
+use Rattle.rad_text.specs.Addresses.{dotted}
 
 -- An octet in double quotes: a quote and a backslash behind a backslash, and what isn't printable ASCII as three
 -- octal digits behind one.
@@ -29,10 +30,6 @@ two_digits c = digit_char (c / 16) ∷ digit_char (c % 16) ∷ []
 
 unfoldable pub hexadecimal : List ℕ → List ℕ
 hexadecimal octets = 48 ∷ 120 ∷ flat_map two_digits octets
-
--- An address in four decimal parts.
-unfoldable pub dotted : ℕ → List ℕ
-dotted address = decimal (address / 16777216) ++ 46 ∷ (decimal (address / 65536 % 256) ++ 46 ∷ (decimal (address / 256 % 256) ++ 46 ∷ decimal (address % 256)))
 
 -- A number by its name, where this value of the attribute has one.
 unfoldable pub number_text : AttrId → ℕ → Definitions → List ℕ

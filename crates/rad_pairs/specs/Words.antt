@@ -1,35 +1,31 @@
--- Blanks, names, and the words that write a value: bare, in single or in double quotes. After users(5); the octal
+-- Names, and the words that write a value: bare, in single or in double quotes. After users(5); the octal
 -- escapes of double quotes are this project's own.
-use Rattle.std.specs.Prelude.{ℕ, zero, suc, ◌+◌, ◌-◌, ◌*◌, Bool, ◌&&◌, ◌||◌, ◌==◌, List, [], ◌∷◌, take, drop, slice_index, Option, Some, None, if◌then◌else◌}
+use Rattle.std.specs.Prelude.{ℕ, zero, suc, ◌+◌, ◌-◌, ◌*◌, Bool, false, ◌&&◌, ◌||◌, ◌==◌, List, [], ◌∷◌, take, drop, slice_index, Option, Some, None, unwrap_or, if◌then◌else◌}
 use Rattle.std.specs.Option.{is_some}
 use Rattle.std.specs.Int.{is_in_range}
+use Rattle.rad_text.specs.Blanks.{is_blank}
+use Rattle.rad_text.specs.Lines.{after_line_end}
 use Rattle.rad_pairs.specs.Operators.{operator_at}
 
-abbrev pub is_blank : ℕ → Bool
-is_blank c = c == 32 || c == 9
+-- What follows the sign that parts two pairs, where one stands at the front: a comma or a line end.
+abbrev pub after_separator : List ℕ → Option (List ℕ)
+after_separator [] = None
+after_separator (c ∷ rest) = if c == 44 then Some rest else after_line_end (c ∷ rest)
 
--- What follows the blanks at the front.
-unfoldable pub after_blanks : List ℕ → List ℕ
-after_blanks [] = []
-after_blanks (c ∷ rest) = if is_blank c then after_blanks rest else c ∷ rest
-
--- A comma or a line end.
-abbrev pub is_separator : ℕ → Bool
-is_separator c = c == 44 || c == 10
-
--- A bare word ends at a blank, a comma or a line end.
-abbrev pub ends_word : ℕ → Bool
-ends_word c = is_blank c || is_separator c
+-- A bare word ends at a blank, and where pairs are parted.
+abbrev pub ends_word : List ℕ → Bool
+ends_word [] = false
+ends_word (c ∷ rest) = is_blank c || is_some (after_separator (c ∷ rest))
 
 -- How many octets the bare word at the front has.
 unfoldable pub word_len : List ℕ → ℕ
 word_len [] = 0
-word_len (c ∷ rest) = if ends_word c then 0 else suc (word_len rest)
+word_len (c ∷ rest) = if ends_word (c ∷ rest) then 0 else suc (word_len rest)
 
 -- How many octets the name at the front has: it ends where a bare word does, and before an operator.
 unfoldable pub name_len : List ℕ → ℕ
 name_len [] = 0
-name_len (c ∷ rest) = if ends_word c || is_some (operator_at (c ∷ rest)) then 0 else suc (name_len rest)
+name_len (c ∷ rest) = if ends_word (c ∷ rest) || is_some (operator_at (c ∷ rest)) then 0 else suc (name_len rest)
 
 -- An octet before what is read from a text.
 abbrev pub behind : ℕ → Option (List ℕ × List ℕ) → Option (List ℕ × List ℕ)
@@ -49,18 +45,16 @@ is_octal text = is_in_range 48 51 (slice_index text 0) && is_in_range 48 55 (sli
 abbrev pub octal : List ℕ → ℕ
 octal text = (slice_index text 0 - 48) * 64 + (slice_index text 1 - 48) * 8 + (slice_index text 2 - 48)
 
--- How many octets belong to an octet at the front, in double quotes, beside itself: one behind a backslash that
--- escapes a quote or a backslash, and three octal digits.
-abbrev pub escape_len : ℕ → List ℕ → ℕ
-escape_len c rest =
-    if c == 92 && (slice_index rest 0 == 34 || slice_index rest 0 == 92) then 1
-    else (if c == 92 && is_octal rest then 3 else 0)
+-- The octet that an escape writes, and how many octets it has, from behind its backslash on: a quote, a backslash, or
+-- three octal digits.
+abbrev pub escape_at : List ℕ → Option (ℕ × ℕ)
+escape_at text =
+    if slice_index text 0 == 34 || slice_index text 0 == 92 then Some (slice_index text 0, 1)
+    else (if is_octal text then Some (octal text, 3) else None)
 
--- The octet that they write.
-abbrev pub escape_value : ℕ → List ℕ → ℕ
-escape_value c rest =
-    if c == 92 && (slice_index rest 0 == 34 || slice_index rest 0 == 92) then slice_index rest 0
-    else (if c == 92 && is_octal rest then octal rest else c)
+-- The octet that an octet at the front writes, in double quotes, and how many octets behind it belong to it.
+abbrev pub written : ℕ → List ℕ → ℕ × ℕ
+written c rest = unwrap_or (if c == 92 then escape_at rest else None) (c, 0)
 
 -- What the text up to the closing double quote, on this line, writes, and what follows the quote. The first octets,
 -- so many, belong to an escape that was read.
@@ -69,7 +63,7 @@ double_quoted passed [] = None
 double_quoted (suc passed) (c ∷ rest) = double_quoted passed rest
 double_quoted zero (c ∷ rest) =
     if c == 34 then Some ([], rest)
-    else (if c == 10 then None else behind (escape_value c rest) (double_quoted (escape_len c rest) rest))
+    else (if c == 10 then None else behind (written c rest).0 (double_quoted (written c rest).1 rest))
 
 -- The word at the front, and what follows it; none where its quote isn't closed on its line.
 unfoldable pub word_at : List ℕ → Option (List ℕ × List ℕ)

@@ -3,8 +3,8 @@
 ghost use Rattle.std.specs.Prelude.{◌≡◌};
 ghost use Rattle.rad_pairs.specs.AttrNames.{attr_by, numbered, kind_or_octets, named, vendor_attr, vendor_number};
 
-use crate::numerals::{number_at, number_of};
 use rad_dict::Dict;
+use rad_text::{number_at, number_of};
 use rad_words::{AttrId, Kind, Space};
 
 /// An attribute, and the kind that its name gives it.

@@ -2,17 +2,8 @@
 
 ghost use Rattle.std.specs.Prelude.{◌≡◌};
 
-use rad_outside::NoMemory;
-use std::alloc::{AllocError, AllocFailed};
+use rad_text::{ReadError, Spot};
 use thiserror::Error;
-
-/// A place in a text: its line, and its column in octets, both counted from 1. What is above 4,294,967,295 is
-/// carried as that.
-#[derive(Clone, Copy, Debug, PartialEq, Eq)]
-pub struct Spot {
-    pub line: u32,
-    pub column: u32,
-}
 
 /// Why the text of a value could not be read.
 #[derive(Clone, Copy, Debug, PartialEq, Eq, Error)]
@@ -24,23 +15,20 @@ pub enum ValueFault {
     NoMemory,
 }
 
-impl From<NoMemory> for ValueFault {
-    ghost use Rattle.rad_pairs.specs.declared.fault.ValueFault.TheVariants as fault;
+/// A text is no value of an attribute's kind.
+#[derive(Clone, Copy, Debug, PartialEq, Eq)]
+pub struct NoValue;
 
-    ghost from_gives = { λ _ e. e ≡ fault.NoMemory };
+impl From<ReadError<NoValue>> for ValueFault {
+    ghost use Rattle.rad_pairs.specs.ValueReading.{value_fault};
 
-    fn from(_e: NoMemory) -> ValueFault {
-        ValueFault::NoMemory
-    }
-}
+    ghost from_gives = { λ e fault. fault ≡ value_fault e };
 
-impl<T: Drop> From<AllocFailed<T>> for ValueFault {
-    ghost use Rattle.rad_pairs.specs.declared.fault.ValueFault.TheVariants as fault;
-
-    ghost from_gives = { λ _ e. e ≡ fault.NoMemory };
-
-    fn from(_e: AllocFailed<T>) -> ValueFault {
-        ValueFault::NoMemory
+    fn from(e: ReadError<NoValue>) -> ValueFault {
+        match e {
+            ReadError::Wrong(NoValue) => ValueFault::BadValue,
+            ReadError::NoMemory => ValueFault::NoMemory,
+        }
     }
 }
 
@@ -67,11 +55,4 @@ pub enum Wrong {
     UnknownAttr(usize),
     BadOperator(usize),
     BadValue(usize),
-}
-
-/// Why the next part of a text of pairs could not be read.
-#[derive(Clone, Copy, Debug, PartialEq, Eq)]
-pub enum PartError {
-    NoMemory,
-    Wrong(Wrong),
 }

@@ -2,19 +2,21 @@
 
 ghost use Rattle.std.specs.Prelude.{◌≡◌, ◌++◌, ◌≤◌, ◌<◌, length, IfOk, IfErr, OnOk, IfSome};
 ghost use Rattle.std.specs.Option.{option_map, option_to_list};
-ghost use Rattle.rad_pairs.specs.ValueReading as values;
+ghost use Rattle.rad_text.specs.Find.{Finds};
+ghost use Rattle.rad_text.specs.Read.{Gives};
+ghost use Rattle.rad_text.specs.Answers.{IsAnswer};
 ghost use Rattle.rad_pairs.specs.PairParts.{is_missing, value_behind, separated, value_at, operator_of};
-ghost use Rattle.rad_pairs.specs.Items.{Gives, value_fault, pair_at, part_at, error_left, fault_at, items_of, IsAnswer};
+ghost use Rattle.rad_pairs.specs.Items.{value_error, pair_at, part_at, error_left, fault_at, items_of, says};
 
 use crate::attr_reading::{AttrKind, named};
-use crate::fault::{PartError, Wrong};
+use crate::fault::{NoValue, Wrong};
 use crate::operators::{Operator, operator_at};
-use crate::spots::spot_of;
 use crate::value_reading::value_of;
-use crate::words::{after_blanks, is_separator, name_len, word_at};
-use crate::{Item, ItemList, PairFault, PairOp, ValueFault};
+use crate::words::{after_separator, name_len, word_at};
+use crate::{Item, ItemList, PairFault, PairOp};
 use rad_dict::Dict;
 use rad_outside::Octets;
+use rad_text::{ReadError, after_blanks, after_line_end, spot_of};
 use rad_value::Value;
 use std::alloc::Global;
 
@@ -24,7 +26,7 @@ fn is_missing(text: &[u8]) -> bool
 {
     match text {
         [] => true,
-        [octet, ..] => is_separator(*octet),
+        _ => after_separator(text).is_some(),
     }
 }
 
@@ -35,12 +37,12 @@ fn value_behind(
     attr: AttrKind,
     word: Option<Octets>,
     dict: &Dict,
-) -> Result<Value, ValueFault>
-    ensures { values.Gives (λ value. value) result (value_behind op attr word dict.now) }
+) -> Result<Value, ReadError<NoValue>>
+    ensures { Finds (λ value. value) result (value_behind op attr word dict.now) }
 {
     match (op, word) {
         (PairOp::Any | PairOp::None, _) => Ok(Value::Text(Octets::from_vec(Vec::new(alloc)))),
-        (_, None) => Err(ValueFault::BadValue),
+        (_, None) => Err(ReadError::Wrong(NoValue)),
         (PairOp::Match | PairOp::NoMatch, Some(word)) => Ok(Value::Text(word)),
         (_, Some(word)) => value_of(alloc, attr, word.as_slice(), dict),
     }
@@ -53,8 +55,7 @@ fn separated(text: &[u8]) -> Option<&[u8]>
 {
     match text {
         [] => Some(text),
-        [octet, rest @ ..] if is_separator(*octet) => Some(rest),
-        _ => None,
+        _ => after_separator(text),
     }
 }
 
@@ -66,14 +67,14 @@ fn value_at<'a>(
     attr: AttrKind,
     text: &'a [u8],
     dict: &Dict,
-) -> Result<(Value, &'a [u8]), ValueFault>
-    ensures exact { values.Gives (λ x. (x.0, x.1.now)) result (value_at op attr text.now dict.now) }
+) -> Result<(Value, &'a [u8]), ReadError<NoValue>>
+    ensures exact { Finds (λ x. (x.0, x.1.now)) result (value_at op attr text.now dict.now) }
     ensures shorter { IfOk result (λ x. length x.1.now ≤ length text.now) }
 {
     let (word, rest) = word_at(alloc, text)?;
     let word = if is_missing(text) { None } else { Some(word) };
     let value = value_behind(alloc, op, attr, word, dict)?;
-    let rest = separated(after_blanks(rest)).ok_or(ValueFault::BadValue)?;
+    let rest = separated(after_blanks(rest)).ok_or(ReadError::Wrong(NoValue))?;
     Ok((value, rest))
 }
 
@@ -90,28 +91,32 @@ fn operator_of(text: &[u8]) -> Option<(PairOp, &[u8])>
 }
 
 /// The value's fault, at the value.
-fn value_fault(fault: ValueFault, left: usize) -> PartError
-    ensures { result ≡ value_fault fault left }
+fn value_error(error: ReadError<NoValue>, left: usize) -> ReadError<Wrong>
+    ensures { result ≡ value_error error left }
 {
-    match fault {
-        ValueFault::BadValue => PartError::Wrong(Wrong::BadValue(left)),
-        ValueFault::NoMemory => PartError::NoMemory,
+    match error {
+        ReadError::Wrong(NoValue) => ReadError::Wrong(Wrong::BadValue(left)),
+        ReadError::NoMemory => ReadError::NoMemory,
     }
 }
 
 /// A pair, and what follows it.
 #[tactic(auto, unfolding(crate::specs::Items::pair_at))]
-fn pair_at<'a>(alloc: Global, text: &'a [u8], dict: &Dict) -> Result<(Item, &'a [u8]), PartError>
+fn pair_at<'a>(
+    alloc: Global,
+    text: &'a [u8],
+    dict: &Dict,
+) -> Result<(Item, &'a [u8]), ReadError<Wrong>>
     ensures exact { Gives (λ x. (x.0, x.1.now)) result (pair_at text.now dict.now) }
     ensures shorter { IfOk result (λ x. length x.1.now < length text.now) }
     ensures inside { IfErr result (λ fault. error_left fault ≤ length text.now) }
 {
     let (name, rest) = text.split_at(name_len(text));
     let Some(attr) = named(name, dict) else {
-        return Err(PartError::Wrong(Wrong::UnknownAttr(text.len())));
+        return Err(ReadError::Wrong(Wrong::UnknownAttr(text.len())));
     };
     let Some((op, after)) = operator_of(after_blanks(rest)) else {
-        return Err(PartError::Wrong(Wrong::BadOperator(rest.len())));
+        return Err(ReadError::Wrong(Wrong::BadOperator(rest.len())));
     };
     let start = after_blanks(after);
     match value_at(alloc, op, attr, start, dict) {
@@ -123,7 +128,7 @@ fn pair_at<'a>(alloc: Global, text: &'a [u8], dict: &Dict) -> Result<(Item, &'a 
             },
             rest,
         )),
-        Err(fault) => Err(value_fault(fault, start.len())),
+        Err(error) => Err(value_error(error, start.len())),
     }
 }
 
@@ -133,21 +138,21 @@ fn part_at<'a>(
     alloc: Global,
     text: &'a [u8],
     dict: &Dict,
-) -> Result<(Option<Item>, &'a [u8]), PartError>
+) -> Result<(Option<Item>, &'a [u8]), ReadError<Wrong>>
     requires { 0 < length text.now }
     ensures exact { Gives (λ x. (x.0, x.1.now)) result (part_at text.now dict.now) }
     ensures shorter { IfOk result (λ x. length x.1.now < length text.now) }
     ensures inside { IfErr result (λ fault. error_left fault ≤ length text.now) }
 {
     let start = after_blanks(text);
-    match start {
-        [] => Ok((None, start)),
-        [b'\n', rest @ ..] => Ok((None, rest)),
-        _ => {
-            let (item, rest) = pair_at(alloc, start, dict)?;
-            Ok((Some(item), rest))
-        }
+    if start.is_empty() {
+        return Ok((None, start));
     }
+    if let Some(rest) = after_line_end(start) {
+        return Ok((None, rest));
+    }
+    let (item, rest) = pair_at(alloc, start, dict)?;
+    Ok((Some(item), rest))
 }
 
 /// Adds an item, where there is one.
@@ -165,15 +170,15 @@ fn add(items: &mut Vec<Item>, item: Option<Item>) -> Result<(), PairFault>
 }
 
 /// Why a part could not be read, with its place in the text.
-fn fault_at(text: &[u8], error: PartError) -> PairFault
+fn fault_at(text: &[u8], error: ReadError<Wrong>) -> PairFault
     requires { error_left error ≤ length text.now }
     ensures { result ≡ fault_at text.now error }
 {
     match error {
-        PartError::Wrong(Wrong::UnknownAttr(left)) => PairFault::UnknownAttr(spot_of(text, left)),
-        PartError::Wrong(Wrong::BadOperator(left)) => PairFault::BadOperator(spot_of(text, left)),
-        PartError::Wrong(Wrong::BadValue(left)) => PairFault::BadValue(spot_of(text, left)),
-        PartError::NoMemory => PairFault::NoMemory,
+        ReadError::Wrong(Wrong::UnknownAttr(left)) => PairFault::UnknownAttr(spot_of(text, left)),
+        ReadError::Wrong(Wrong::BadOperator(left)) => PairFault::BadOperator(spot_of(text, left)),
+        ReadError::Wrong(Wrong::BadValue(left)) => PairFault::BadValue(spot_of(text, left)),
+        ReadError::NoMemory => PairFault::NoMemory,
     }
 }
 
@@ -181,7 +186,7 @@ fn fault_at(text: &[u8], error: PartError) -> PairFault
 /// them, in reading order; or the first fault at its place. For each pair UnknownAttr comes before BadOperator, and
 /// that before BadValue.
 pub fn read_pairs(alloc: Global, text: &[u8], dict: &Dict) -> Result<ItemList, PairFault>
-    ensures { IsAnswer (items_of text.now dict.now) result }
+    ensures { IsAnswer says (items_of text.now dict.now) result }
 {
     let mut items = Vec::new(alloc);
     let mut rest = text;

@@ -3,23 +3,16 @@
 ghost use Rattle.std.specs.Prelude.{◌≡◌, ◌<◌, [], ◌∷◌, ◌++◌, Ok, IfOk, OnOk};
 ghost use Rattle.std.specs.Fmt.{decimal};
 ghost use Rattle.std.specs.Char.{digit_char};
-ghost use Rattle.rad_pairs.specs.ValueText.{escaped, quoted, two_digits, hexadecimal, dotted, number_text, value_text, numbered_text, attr_text, pair_text};
+ghost use Rattle.rad_pairs.specs.ValueText.{escaped, quoted, two_digits, hexadecimal, number_text, value_text, numbered_text, attr_text, pair_text};
 ghost use Rattle.rad_pairs.specs.Items.{items_of};
 ghost use Rattle.rad_pairs.specs.ReadingBack.{AreOctets, InRange, IsSpace, HasItsKind, item_of};
 
 use rad_dict::Dict;
 use rad_outside::{NoMemory, Octets};
+use rad_text::{put_decimal, put_dotted};
 use rad_value::{Pair, Value};
 use rad_words::{AttrId, Space};
 use std::alloc::Global;
-
-fn put_decimal(alloc: Global, text: &mut Vec<u8>, number: u32) -> Result<(), NoMemory>
-    ensures { OnOk result (text.new.items ≡ text.old.items ++ decimal number) }
-{
-    let digits = number.to_string(alloc)?;
-    text.extend_from_slice(digits.as_bytes())?;
-    Ok(())
-}
 
 /// An octet in double quotes.
 fn put_escaped(text: &mut Vec<u8>, octet: u8) -> Result<(), NoMemory>
@@ -76,19 +69,6 @@ fn put_hexadecimal(text: &mut Vec<u8>, octets: &[u8]) -> Result<(), NoMemory>
     Ok(())
 }
 
-#[tactic(auto, unfolding(crate::specs::ValueText::dotted))]
-fn put_dotted(alloc: Global, text: &mut Vec<u8>, address: u32) -> Result<(), NoMemory>
-    ensures { OnOk result (text.new.items ≡ text.old.items ++ dotted address) }
-{
-    put_decimal(alloc, text, address / 16777216)?;
-    text.push(b'.')?;
-    put_decimal(alloc, text, address / 65536 % 256)?;
-    text.push(b'.')?;
-    put_decimal(alloc, text, address / 256 % 256)?;
-    text.push(b'.')?;
-    put_decimal(alloc, text, address % 256)
-}
-
 #[tactic(auto, unfolding(crate::specs::ValueText::number_text))]
 fn put_number(
     alloc: Global,
@@ -101,7 +81,7 @@ fn put_number(
 {
     match dict.value_name(attr, number) {
         Some(name) => text.extend_from_slice(name)?,
-        None => put_decimal(alloc, text, number)?,
+        None => put_decimal(alloc, text, u64::from(number))?,
     }
     Ok(())
 }
@@ -121,7 +101,7 @@ fn put_value(
         Value::Octets(octets) => put_hexadecimal(text, octets.as_slice()),
         Value::Addr(address) => put_dotted(alloc, text, *address),
         Value::Number(number) => put_number(alloc, text, attr, *number, dict),
-        Value::Date(seconds) => put_decimal(alloc, text, *seconds),
+        Value::Date(seconds) => put_decimal(alloc, text, u64::from(*seconds)),
         Value::Byte(number) => put_number(alloc, text, attr, u32::from(*number), dict),
         Value::Short(number) => put_number(alloc, text, attr, u32::from(*number), dict),
     }
@@ -134,10 +114,10 @@ fn put_numbered(alloc: Global, text: &mut Vec<u8>, attr: AttrId) -> Result<(), N
     text.extend_from_slice(b"Attr-")?;
     if let Space::Vendor(vendor) = attr.space {
         text.extend_from_slice(b"26.")?;
-        put_decimal(alloc, text, vendor)?;
+        put_decimal(alloc, text, u64::from(vendor))?;
         text.push(b'.')?;
     }
-    put_decimal(alloc, text, attr.number)
+    put_decimal(alloc, text, u64::from(attr.number))
 }
 
 #[tactic(auto, unfolding(crate::specs::ValueText::attr_text))]

@@ -1,14 +1,17 @@
 //! Texts of values that are read.
 
 ghost use Rattle.std.specs.Prelude.{◌≡◌, IfOk};
-ghost use Rattle.std.specs.Option.{option_map};
-ghost use Rattle.rad_pairs.specs.ValueReading.{Gives, digit_pairs, octets_of, part_at, next_part_at, address_of, number_in, byte_of, short_of, value_of};
+ghost use Rattle.rad_text.specs.Find.{Finds};
+ghost use Rattle.rad_text.specs.Read.{found};
+ghost use Rattle.rad_text.specs.Answers.{IsAnswer};
+ghost use Rattle.rad_pairs.specs.ValueReading.{digit_pairs, octets_of, number_in, byte_of, short_of, value_of, says};
 
 use crate::ValueFault;
 use crate::attr_reading::AttrKind;
-use crate::numerals::{digit_value, is_digit, number_at, number_of, numeral_of};
+use crate::fault::NoValue;
 use rad_dict::{AttrDef, Dict};
 use rad_outside::{NoMemory, Octets};
+use rad_text::{ReadError, address_of, digit_value, is_digit, number_of, numeral_of};
 use rad_value::Value;
 use rad_words::{AttrId, Kind};
 use std::alloc::Global;
@@ -46,45 +49,6 @@ fn octets_of(alloc: Global, text: &[u8]) -> Result<Octets, NoMemory>
     Octets::of(alloc, text)
 }
 
-/// A part of an address, and what follows it.
-#[tactic(auto, unfolding(crate::specs::ValueReading::part_at))]
-fn part_at(text: &[u8]) -> Option<(u8, &[u8])>
-    ensures { option_map (λ x. (x.0, x.1.now)) result ≡ part_at text.now }
-{
-    let (part, rest) = number_at(10, text)?;
-    if text.len() - rest.len() <= 3 && part < 256 {
-        Some((part as u8, rest))
-    } else {
-        None
-    }
-}
-
-/// The same behind a dot.
-fn next_part_at(text: &[u8]) -> Option<(u8, &[u8])>
-    ensures { option_map (λ x. (x.0, x.1.now)) result ≡ next_part_at text.now }
-{
-    match text {
-        [b'.', rest @ ..] => part_at(rest),
-        _ => None,
-    }
-}
-
-/// The address of a whole text `a.b.c.d`, in network order as a number: four decimal parts of one to three digits, each
-/// 255 at most, after RFC 1123 section 2.1. None where the text is no address.
-#[tactic(auto, unfolding(crate::specs::ValueReading::address_of))]
-pub fn address_of(text: &[u8]) -> Option<u32>
-    ensures { result ≡ address_of text.now }
-{
-    let (a, rest) = part_at(text)?;
-    let (b, rest) = next_part_at(rest)?;
-    let (c, rest) = next_part_at(rest)?;
-    let (d, rest) = next_part_at(rest)?;
-    match rest {
-        [] => Some(u32::from_be_bytes([a, b, c, d])),
-        _ => None,
-    }
-}
-
 /// A number by the name of the attribute's value, else by its digits.
 #[tactic(auto, unfolding(crate::specs::ValueReading::number_in))]
 fn number_in(attr: AttrId, text: &[u8], dict: &Dict) -> Option<u32>
@@ -117,10 +81,10 @@ fn short_of(number: u32) -> Option<Value>
 }
 
 /// The value that was found, or that the text is none.
-fn said(value: Option<Value>) -> Result<Value, ValueFault>
-    ensures { Gives (λ value. value) result value }
+fn said(value: Option<Value>) -> Result<Value, ReadError<NoValue>>
+    ensures { Finds (λ value. value) result value }
 {
-    value.ok_or(ValueFault::BadValue)
+    value.ok_or(ReadError::Wrong(NoValue))
 }
 
 /// The value of a text for an attribute and its kind.
@@ -129,8 +93,8 @@ pub fn value_of(
     attr: AttrKind,
     text: &[u8],
     dict: &Dict,
-) -> Result<Value, ValueFault>
-    ensures { Gives (λ value. value) result (value_of attr.kind attr.id text.now dict.now) }
+) -> Result<Value, ReadError<NoValue>>
+    ensures { Finds (λ value. value) result (value_of attr.kind attr.id text.now dict.now) }
 {
     match attr.kind {
         Kind::Text => Ok(Value::Text(Octets::of(alloc, text)?)),
@@ -153,11 +117,11 @@ pub fn read_value(
     def: &AttrDef,
     dict: &Dict,
 ) -> Result<Value, ValueFault>
-    ensures { Gives (λ value. value) result (value_of def.now.kind def.now.id text.now dict.now) }
+    ensures { IsAnswer says (found ValueFault.BadValue (value_of def.now.kind def.now.id text.now dict.now)) result }
 {
     let attr = AttrKind {
         id: def.id,
         kind: def.kind,
     };
-    value_of(alloc, attr, text, dict)
+    Ok(value_of(alloc, attr, text, dict)?)
 }

@@ -1,43 +1,35 @@
-//! Blanks, names and words at the front of a text.
+//! Names and words at the front of a text.
 
-ghost use Rattle.std.specs.Prelude.{◌≡◌, ◌≤◌, length, IfOk, IfSome, Some, None, if◌then◌else◌};
+ghost use Rattle.std.specs.Prelude.{◌≡◌, ◌≤◌, ◌<◌, length, IfOk, IfSome, Some, None, if◌then◌else◌};
 ghost use Rattle.std.specs.Option.{option_map};
-ghost use Rattle.rad_pairs.specs.ValueReading.{Gives};
-ghost use Rattle.rad_pairs.specs.Words.{after_blanks, is_separator, ends_word, word_len, name_len, single_quoted, is_octal, octal, escape_len, escape_value, double_quoted, word_at};
+ghost use Rattle.rad_text.specs.Find.{Finds};
+ghost use Rattle.rad_pairs.specs.Words.{after_separator, ends_word, word_len, name_len, single_quoted, is_octal, octal, escape_at, written, double_quoted, word_at};
 
-use crate::ValueFault;
+use crate::fault::NoValue;
 use crate::operators::operator_at;
 use rad_outside::Octets;
+use rad_text::{ReadError, after_line_end};
 use std::alloc::Global;
 
-/// What follows the blanks at the front: spaces and tabs.
-#[tactic(auto, unfolding(crate::specs::Words::after_blanks))]
-pub fn after_blanks(text: &[u8]) -> &[u8]
-    ensures rest { result.now ≡ after_blanks text.now }
-    ensures shorter { length result.now ≤ length text.now }
+/// What follows the sign that parts two pairs, where one stands at the front: a comma or a line end.
+pub fn after_separator(text: &[u8]) -> Option<&[u8]>
+    ensures exact { option_map (λ x. x.now) result ≡ after_separator text.now }
+    ensures shorter { IfSome result (λ x. length x.now < length text.now) }
 {
-    let mut rest = text;
-    while let Some((octet, after)) = rest.split_first() {
-        if !matches!(*octet, b' ' | b'\t') {
-            break;
-        }
-        rest = after;
+    match text {
+        [b',', rest @ ..] => Some(rest),
+        _ => after_line_end(text),
     }
-    rest
 }
 
-/// Whether the octet parts two pairs.
-pub fn is_separator(octet: u8) -> bool
-    ensures { result ≡ is_separator octet }
+/// Whether a bare word ends before the text.
+fn ends_word(text: &[u8]) -> bool
+    ensures { result ≡ ends_word text.now }
 {
-    matches!(octet, b',' | b'\n')
-}
-
-/// Whether a bare word ends before the octet.
-fn ends_word(octet: u8) -> bool
-    ensures { result ≡ ends_word octet }
-{
-    matches!(octet, b' ' | b'\t' | b',' | b'\n')
+    match text {
+        [b' ' | b'\t', ..] => true,
+        _ => after_separator(text).is_some(),
+    }
 }
 
 /// The length of the bare word at the front.
@@ -48,8 +40,8 @@ fn word_len(text: &[u8]) -> usize
 {
     let mut len = 0;
     let mut rest = text;
-    while let Some((octet, after)) = rest.split_first() {
-        if ends_word(*octet) {
+    while let Some((_, after)) = rest.split_first() {
+        if ends_word(rest) {
             break;
         }
         len += 1;
@@ -66,8 +58,8 @@ pub fn name_len(text: &[u8]) -> usize
 {
     let mut len = 0;
     let mut rest = text;
-    while let Some((octet, after)) = rest.split_first() {
-        if ends_word(*octet) || operator_at(rest).is_some() {
+    while let Some((_, after)) = rest.split_first() {
+        if ends_word(rest) || operator_at(rest).is_some() {
             break;
         }
         len += 1;
@@ -112,28 +104,36 @@ fn octal_at(text: &[u8]) -> Option<u8>
     }
 }
 
+/// The octet that an escape writes from behind its backslash on, and how many octets it has there.
+fn escape_at(text: &[u8]) -> Option<(u8, usize)>
+    ensures exact { result ≡ escape_at text.now }
+    ensures within { IfSome result (λ x. x.1 ≤ length text.now) }
+{
+    if let [escaped @ (b'"' | b'\\'), ..] = text {
+        return Some((*escaped, 1));
+    }
+    let octet = octal_at(text)?;
+    Some((octet, 3))
+}
+
 /// The octet that an octet at the front writes in double quotes, and how many that follow it belong to it.
-fn escape_at(octet: u8, rest: &[u8]) -> (u8, usize)
-    ensures octet { result.0 ≡ escape_value octet rest.now }
-    ensures length { result.1 ≡ escape_len octet rest.now }
+fn written(octet: u8, rest: &[u8]) -> (u8, usize)
+    ensures exact { result ≡ written octet rest.now }
     ensures within { result.1 ≤ length rest.now }
 {
     if octet != b'\\' {
         return (octet, 0);
     }
-    if let [escaped @ (b'"' | b'\\'), ..] = rest {
-        return (*escaped, 1);
-    }
-    match octal_at(rest) {
-        Some(value) => (value, 3),
+    match escape_at(rest) {
+        Some(escape) => escape,
         None => (octet, 0),
     }
 }
 
 /// What the text up to the closing double quote writes, and what follows that.
 #[tactic(auto, unfolding(crate::specs::Words::double_quoted))]
-fn double_quoted(alloc: Global, text: &[u8]) -> Result<(Octets, &[u8]), ValueFault>
-    ensures exact { Gives (λ x. (x.0, x.1.now)) result (double_quoted 0 text.now) }
+fn double_quoted(alloc: Global, text: &[u8]) -> Result<(Octets, &[u8]), ReadError<NoValue>>
+    ensures exact { Finds (λ x. (x.0, x.1.now)) result (double_quoted 0 text.now) }
     ensures shorter { IfOk result (λ x. length x.1.now ≤ length text.now) }
 {
     let mut octets = Vec::new(alloc);
@@ -143,26 +143,26 @@ fn double_quoted(alloc: Global, text: &[u8]) -> Result<(Octets, &[u8]), ValueFau
             b'"' => return Ok((Octets::from_vec(octets), after)),
             b'\n' => break,
             other => {
-                let (value, len) = escape_at(other, after);
+                let (value, len) = written(other, after);
                 octets.push(value)?;
                 let (_, unread) = after.split_at(len);
                 rest = unread;
             }
         }
     }
-    Err(ValueFault::BadValue)
+    Err(ReadError::Wrong(NoValue))
 }
 
 /// The word at the front, and what follows it; BadValue where its quote isn't closed on its line.
 #[tactic(auto, unfolding(crate::specs::Words::word_at))]
-pub fn word_at(alloc: Global, text: &[u8]) -> Result<(Octets, &[u8]), ValueFault>
-    ensures exact { Gives (λ x. (x.0, x.1.now)) result (word_at text.now) }
+pub fn word_at(alloc: Global, text: &[u8]) -> Result<(Octets, &[u8]), ReadError<NoValue>>
+    ensures exact { Finds (λ x. (x.0, x.1.now)) result (word_at text.now) }
     ensures shorter { IfOk result (λ x. length x.1.now ≤ length text.now) }
 {
     match text {
         [b'"', rest @ ..] => double_quoted(alloc, rest),
         [b'\'', rest @ ..] => {
-            let (word, rest) = single_quoted(rest).ok_or(ValueFault::BadValue)?;
+            let (word, rest) = single_quoted(rest).ok_or(ReadError::Wrong(NoValue))?;
             Ok((Octets::of(alloc, word)?, rest))
         }
         _ => {

@@ -19,7 +19,7 @@ returns-in-Ok-Replies-clause-exact c =
     let said = rw c.in-Ok-Replies.field-0-is at c.in-Ok-Replies.ensures in
     λ more. steps c.args.number c.args.entries.now.items c.add_replies.new.entries.items c.args.line.now (Replies c.in-Ok-Replies.items) more c.args.dict.now c.add_replies.result said c.add_replies.ensures.ok c.add_replies.ensures.err
 
-pub returns-in-Err-NotBuilt-clause-exact : goal.returns-in-Err-NotBuilt-clause-exact
-returns-in-Err-NotBuilt-clause-exact c =
-    let said = rw c.in-Err-NotBuilt.field-0-is at c.in-Err-NotBuilt.ensures in
+pub returns-in-Err-Wrong-clause-exact : goal.returns-in-Err-Wrong-clause-exact
+returns-in-Err-Wrong-clause-exact c =
+    let said = rw c.in-Err-Wrong.field-0-is at c.in-Err-Wrong.ensures in
     λ more. is_refused c.args.number c.args.entries.now.items c.args.line.now more c.args.dict.now (ap (λ line. entries_after c.args.number line c.args.entries.now.items) said)

@@ -1,6 +1,6 @@
 use Rattle.std.proofs.Common.{◌≡◌, ◌+◌, ◌≤◌, length}
 use Rattle.rad_outside.specs.Telling.{Tells}
-use Rattle.rad_dict.specs.TextLines.{lines_of}
+use Rattle.rad_text.specs.Lines.{lines_of}
 use Rattle.rad_dict.specs.Includes.{include_read, lines_read, text_read}
 use Rattle.rad_dict.proofs.including.+text_read.Given as goal
 

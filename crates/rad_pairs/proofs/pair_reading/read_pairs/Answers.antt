@@ -1,6 +1,6 @@
 use Rattle.std.proofs.Common.{◌≡◌, ◌<◌, length, sym, arith}
 use Rattle.std.proofs.lemmas.Bool.{eqb-true, eqb-false}
-use Rattle.rad_pairs.specs.Items.{pairs_in}
+use Rattle.rad_pairs.specs.Items.{pairs_of}
 use Rattle.rad_pairs.proofs.Turns.{goes_on, ends, is_done, said_items, said_fault}
 use Rattle.rad_pairs.proofs.pair_reading.read_pairs.Goals as goal
 
@@ -9,7 +9,7 @@ loop-rest-preserved c =
     let text = c.args.text.now in
     let long : 0 < length c.loop-rest.rest.now = omega (arith, eqb-false (length c.loop-rest.rest.now) 0 (sym c.loop-rest-test.ensures)) in
     record {
-      parts = rw c.in_ok-add-in-Ok.ensures.ok (goes_on c.loop-rest.items.items c.loop-rest.rest.now c.args.dict.now (pairs_in (length text) text c.args.dict.now) c.in-Ok.item c.in-Ok.after.now long c.in-Ok.ensures.exact c.in-Ok.ensures.shorter c.loop-rest.invariant.parts);
+      parts = rw c.in_ok-add-in-Ok.ensures.ok (goes_on c.loop-rest.items.items c.loop-rest.rest.now c.args.dict.now (pairs_of text c.args.dict.now) c.in-Ok.item c.in-Ok.after.now long c.in-Ok.ensures.exact c.in-Ok.ensures.shorter c.loop-rest.invariant.parts);
       shorter = omega (arith, c.in-Ok.ensures.shorter);
     }
 
@@ -17,10 +17,10 @@ pub returns-in-Err : goal.returns-in-Err
 returns-in-Err c =
     let text = c.args.text.now in
     let long : 0 < length c.loop-rest.rest.now = omega (arith, eqb-false (length c.loop-rest.rest.now) 0 (sym c.loop-rest-test.ensures)) in
-    rw c.fault_at.ensures (said_fault text c.args.dict.now c.in-Err.error (ends c.loop-rest.items.items c.loop-rest.rest.now c.args.dict.now (pairs_in (length text) text c.args.dict.now) c.in-Err.error long c.in-Err.ensures.exact c.loop-rest.invariant.parts))
+    rw c.fault_at.ensures (said_fault text c.args.dict.now c.in-Err.error (ends c.loop-rest.items.items c.loop-rest.rest.now c.args.dict.now (pairs_of text c.args.dict.now) c.in-Err.error long c.in-Err.ensures.exact c.loop-rest.invariant.parts))
 
 pub returns : goal.returns
 returns c =
     let text = c.args.text.now in
     let ended : length c.loop-rest.rest.now ≡ 0 = eqb-true (length c.loop-rest.rest.now) 0 (sym c.loop-rest-test.ensures) in
-    rw c.from_vec.ensures (said_items text c.args.dict.now c.loop-rest.items.items (is_done c.loop-rest.items.items c.loop-rest.rest.now c.args.dict.now (pairs_in (length text) text c.args.dict.now) ended c.loop-rest.invariant.parts))
+    rw c.from_vec.ensures (said_items text c.args.dict.now c.loop-rest.items.items (is_done c.loop-rest.items.items c.loop-rest.rest.now c.args.dict.now (pairs_of text c.args.dict.now) ended c.loop-rest.invariant.parts))

@@ -12,6 +12,6 @@ loop-octet-preserved c =
     let line : eqb octet 10 ≡ false = search rules in
     let said : in_front octets (double_quoted 0 (octet ∷ after)) ≡ double_quoted 0 c.args.text.now = ap (λ x. in_front octets (double_quoted 0 x)) (sym c.in-Some.ensures.cases.0) ∙ c.loop-octet.invariant.so_far in
     record {
-      so_far = rw (c.in_ok-push-in_default-octet.ensures.items, c.split_at.ensures.back, c.escape_at-value.ensures.octet, c.escape_at-value.ensures.length) (sym (double_goes_on octets octet after quote line) ∙ said);
+      so_far = rw (c.in_ok-push-in_default-octet.ensures.items, c.split_at.ensures.back, c.written-value.ensures.exact) (sym (double_goes_on octets octet after quote line) ∙ said);
       shorter = omega (arith, c.in-Some.ensures.cases.1, c.split_at.ensures.back_len);
     }

@@ -2,11 +2,11 @@ use Rattle.std.proofs.Common.{◌≡◌, ◌+◌, length}
 use Rattle.rad_pairs.specs.Words.{word_len}
 use Rattle.rad_pairs.proofs.words.word_len.Given as goal
 
-abbrev pub invariant-loop-octet : goal.invariant-loop-octet
-invariant-loop-octet l = record {
+abbrev pub invariant-loop-after : goal.invariant-loop-after
+invariant-loop-after l = record {
   so_far : l.len + word_len l.rest ≡ word_len l.text;
   length_so_far : l.len + length l.rest ≡ length l.text;
 }
 
-abbrev pub decreases-loop-octet : goal.decreases-loop-octet
-decreases-loop-octet l = length l.rest
+abbrev pub decreases-loop-after : goal.decreases-loop-after
+decreases-loop-after l = length l.rest

@@ -1,0 +1,10 @@
+pub mod Read
+pub mod Find
+pub mod Answers
+pub mod Blanks
+pub mod Lines
+pub mod Numerals
+pub mod Addresses
+pub mod Paths
+pub mod Spots
+pub mod Parts
