@@ -1,0 +1,4 @@
+pub mod Listed
+pub mod Log
+pub mod Laws
+pub mod Pieces
