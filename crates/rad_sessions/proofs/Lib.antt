@@ -2,3 +2,5 @@ pub mod Words
 pub mod ReadBack
 pub mod LogLines
 pub mod Logging
+pub mod Keying
+pub mod LineByLine

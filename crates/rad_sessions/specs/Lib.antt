@@ -2,3 +2,5 @@ pub mod Listed
 pub mod Log
 pub mod Laws
 pub mod Pieces
+pub mod Keyed
+pub mod Kept

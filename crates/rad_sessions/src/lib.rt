@@ -5,15 +5,24 @@
 #![tactic(auto)]
 
 mod change;
+mod changing;
 mod cut;
+mod fault;
 mod fields;
+mod folding;
 mod hexadecimal;
 mod laws;
 mod lines;
+mod listed;
 mod session;
+mod session_list;
+mod sessions;
 mod written;
 
 pub use change::Change;
+pub use fault::RoomFault;
 pub use laws::{lines_are_read_back, logs_say_the_whole_pieces};
 pub use session::Session;
+pub use session_list::SessionList;
+pub use sessions::{Sessions, fold_log};
 pub use written::line_of;
