@@ -1,9 +1,9 @@
 //! A list of sessions in which a place is found without a look at the others.
 
-ghost use Rattle.std.specs.Prelude.{◌≡◌, [], length, OnOk, IfOk};
+ghost use Rattle.std.specs.Prelude.{◌≡◌, ◌≤◌, [], length, OnOk, IfOk};
 ghost use Rattle.std.specs.Option.{option_copied};
 ghost use Rattle.std.specs.List.{filter};
-ghost use Rattle.rad_sessions.specs.Listed.{session_at, begun, ended, begun_again, renewed_at, is_elsewhere};
+ghost use Rattle.rad_sessions.specs.Listed.{session_at, begun, ended, begun_again, renewed_at, is_elsewhere, count_of, limit};
 
 use crate::session::Session;
 use crate::session_list::SessionList;
@@ -113,6 +113,20 @@ impl Listed {
             Some(session) => Ok(Some(session.with_framed(alloc, framed)?)),
             None => Ok(None),
         }
+    }
+
+    /// How many sessions a user has.
+    pub(crate) fn count(&self, user: &[u8]) -> u32
+        requires { length self.now ≤ limit }
+        ensures { result ≡ count_of user.now self.now }
+    {
+        let mut count = 0u32;
+        for (_, session) in &self.entries {
+            if session.user.as_slice() == user {
+                count += 1;
+            }
+        }
+        count
     }
 
     /// The sessions in order.

@@ -2,7 +2,7 @@
 
 ghost use Rattle.std.specs.Prelude.{◌≡◌, ◌≤◌, [], List, Some, None, length, OnOk, OnErr, IfOk};
 ghost use Rattle.std.specs.Option.{option_copied};
-ghost use Rattle.rad_sessions.specs.Listed.{session_at, after, is_too_many, limit};
+ghost use Rattle.rad_sessions.specs.Listed.{session_at, after, count_of, is_too_many, limit};
 ghost use Rattle.std.specs.Arc.{arc_value};
 ghost use Rattle.rad_sessions.specs.Keyed.{IsReady};
 ghost use Rattle.rad_sessions.specs.Kept.{Kept, without_room, IsFullWhere};
@@ -72,6 +72,16 @@ impl Sessions {
         match &self.shared {
             Some(listed) => listed.at(nas, port),
             None => None,
+        }
+    }
+
+    /// How many sessions a user has; names are compared octet by octet.
+    pub fn count(&self, user: &[u8]) -> u32
+        ensures { result ≡ count_of user.now self.now.sessions }
+    {
+        match &self.shared {
+            Some(listed) => listed.count(user),
+            None => 0,
         }
     }
 
