@@ -1,0 +1,15 @@
+use Rattle.std.proofs.Common.{rules, not, eqb}
+use Rattle.std.specs.Arc.{arc_value}
+use Rattle.std.proofs.lemmas.Map.Made.{filter_same_pairs}
+use Rattle.rad_sessions.proofs.Keying.{keyed_clear, filter_keyed}
+use Rattle.rad_sessions.proofs.listed.Listed.clear.Goals as goal
+
+pub invariant_of-self : goal.invariant_of-self
+invariant_of-self c =
+    rw (filter_same_pairs _ (λ e. not (eqb e.0.0 c.args.nas)) _ (λ k v b w f' t. search rules) _ _ c.retain.ensures.filtered)
+    (filter_keyed arc_value (λ e. not (eqb e.0.0 c.args.nas)) c.self.inside.entries.entries c.self.invariant)
+
+pub returns : goal.returns
+returns c =
+    rw (filter_same_pairs _ (λ e. not (eqb e.0.0 c.args.nas)) _ (λ k v b w f' t. search rules) _ _ c.retain.ensures.filtered, ← c.self.view_is)
+    (keyed_clear arc_value c.args.nas c.self.inside.entries.entries c.self.invariant)

@@ -1,0 +1,6 @@
+pub mod Listed
+pub mod Log
+pub mod Laws
+pub mod Pieces
+pub mod Keyed
+pub mod Kept

@@ -1,0 +1,203 @@
+//! The sessions that a server keeps, and room for their next change.
+
+ghost use Rattle.std.specs.Prelude.{◌≡◌, ◌≤◌, [], List, Some, None, length, OnOk, OnErr, IfOk};
+ghost use Rattle.std.specs.Option.{option_copied};
+ghost use Rattle.rad_sessions.specs.Listed.{session_at, after, count_of, is_too_many, limit};
+ghost use Rattle.std.specs.Arc.{arc_value};
+ghost use Rattle.rad_sessions.specs.Keyed.{IsReady};
+ghost use Rattle.rad_sessions.specs.Kept.{Kept, without_room, IsFullWhere};
+ghost use Rattle.rad_sessions.specs.Log.{folded};
+
+use crate::change::Change;
+use crate::fault::RoomFault;
+use crate::folding::folded;
+use crate::listed::Listed;
+use crate::session::Session;
+use crate::session_list::SessionList;
+use rad_outside::NoMemory;
+use std::alloc::Global;
+use std::marker::Model;
+use std::sync::Arc;
+
+/// The list that takes the present one's place when a change is done.
+#[derive(Debug, Drop)]
+struct Room {
+    change: Change,
+    ready: Arc<Listed>,
+}
+
+/// Sessions in order of their places, 65,536 at most, and the change that room was made for, or none. The list is shared
+/// with snapshots; a change builds the next list beside it.
+#[derive(Debug, Drop)]
+pub struct Sessions {
+    alloc: Global,
+    shared: Option<Arc<Listed>>,
+    room: Option<Room>,
+}
+
+impl Model for Sessions {
+    ghost use Rattle.std.specs.Prelude.{◌≤◌, length, IfSome};
+    ghost use Rattle.std.specs.Arc.{arc_value};
+    ghost use Rattle.std.specs.Option.{option_map};
+    ghost use Rattle.rad_sessions.specs.Listed.{limit};
+    ghost use Rattle.rad_sessions.specs.Keyed.{list_of, IsReady};
+    ghost use Rattle.rad_sessions.specs.Kept.{Kept};
+
+    ghost Value = { Kept };
+
+    ghost view = { λ s. record { sessions = list_of arc_value s.shared; room = option_map (λ r. r.change) s.room } };
+
+    ghost invariant = { λ s. record {
+      fits : length (list_of arc_value s.shared) ≤ limit;
+      room : IfSome s.room (λ r. IsReady (list_of arc_value s.shared) r.change (arc_value r.ready));
+    } };
+}
+
+impl Sessions {
+    /// No sessions.
+    pub fn new(alloc: Global) -> Sessions
+        ensures { result ≡ without_room [] }
+    {
+        Sessions {
+            alloc,
+            shared: None,
+            room: None,
+        }
+    }
+
+    /// The session on a port of a NAS.
+    pub fn at(&self, nas: u32, port: u32) -> Option<&Session>
+        ensures { option_copied result ≡ session_at (nas, port) self.now.sessions }
+    {
+        match &self.shared {
+            Some(listed) => listed.at(nas, port),
+            None => None,
+        }
+    }
+
+    /// How many sessions a user has; names are compared octet by octet.
+    pub fn count(&self, user: &[u8]) -> u32
+        ensures { result ≡ count_of user.now self.now.sessions }
+    {
+        match &self.shared {
+            Some(listed) => listed.count(user),
+            None => 0,
+        }
+    }
+
+    /// The same sessions, without room. They stay as they are whatever is done to these.
+    pub fn snapshot(&self) -> Result<Sessions, NoMemory>
+        ensures { IfOk result (λ sessions. sessions ≡ without_room self.now.sessions) }
+    {
+        Ok(Sessions {
+            alloc: self.alloc,
+            shared: match &self.shared {
+                Some(listed) => Some(Arc::try_clone(listed)?),
+                None => None,
+            },
+            room: None,
+        })
+    }
+
+    /// Does a change for which room was made, which takes no memory. No room is left.
+    pub fn apply(&mut self, change: Change)
+        requires { self.old.room ≡ Some change }
+        ensures { self.new ≡ without_room (after self.old.sessions change) }
+    {
+        if let Some(room) = self.room.take() {
+            self.shared = Some(room.ready);
+        }
+    }
+
+    /// Makes room for this very change and leaves the list; room that was made before is given up. It is full, with
+    /// 65,536, exactly where a session would be added to as many; after an error everything is as before.
+    pub fn make_room(&mut self, change: &Change) -> Result<(), RoomFault>
+        ensures list { self.new.sessions ≡ self.old.sessions }
+        ensures room { OnOk result (self.new.room ≡ Some change.now) }
+        ensures kept { OnErr result (self.new ≡ self.old) }
+        ensures full { IsFullWhere (is_too_many self.old.sessions change.now) result }
+    {
+        if self.is_full_for(change) {
+            return Err(RoomFault::Full(65536));
+        }
+        let room = self.room_for(change)?;
+        self.room = Some(room);
+        Ok(())
+    }
+
+    /// Whether a change would add a session to as many as may stand.
+    fn is_full_for(&self, change: &Change) -> bool
+        ensures { result ≡ is_too_many self.now.sessions change.now }
+    {
+        match &self.shared {
+            Some(listed) => listed.is_too_many(change),
+            None => false,
+        }
+    }
+
+    /// The list after a change, beside the present one.
+    fn room_for(&self, change: &Change) -> Result<Room, NoMemory>
+        ensures { IfOk result (λ room. (room.change ≡ change.now) × IsReady self.now.sessions change.now (arc_value room.ready)) }
+    {
+        let kept = change.copy(self.alloc)?;
+        let done = change.copy(self.alloc)?;
+        let ready = self.list_after(done)?;
+        Ok(Room {
+            change: kept,
+            ready,
+        })
+    }
+
+    /// The list after a change.
+    fn list_after(&self, change: Change) -> Result<Arc<Listed>, NoMemory>
+        ensures { IfOk result (λ ready. IsReady self.now.sessions change (arc_value ready)) }
+    {
+        let mut list = self.list()?;
+        list.change(self.alloc, change)?;
+        fitting(self.alloc, list)
+    }
+
+    /// A list of the same sessions.
+    fn list(&self) -> Result<Listed, NoMemory>
+        ensures { IfOk result (λ listed. listed ≡ self.now.sessions) }
+    {
+        match &self.shared {
+            Some(listed) => listed.copy(),
+            None => Ok(Listed::new(self.alloc)),
+        }
+    }
+
+    /// The sessions in order of their places.
+    pub fn sorted(&self) -> Result<SessionList, NoMemory>
+        ensures { IfOk result (λ list. list ≡ self.now.sessions) }
+    {
+        match &self.shared {
+            Some(listed) => listed.sorted(self.alloc),
+            None => Ok(SessionList::from_vec(Vec::new(self.alloc))),
+        }
+    }
+}
+
+/// A list to share.
+fn fitting(alloc: Global, list: Listed) -> Result<Arc<Listed>, NoMemory>
+    ensures list { IfOk result (λ shared. arc_value shared ≡ list) }
+    ensures fits { IfOk result (λ shared. length (arc_value shared) ≤ limit) }
+{
+    if list.len() > 65536 {
+        return Err(NoMemory);
+    }
+    Ok(Arc::new(alloc, list)?)
+}
+
+/// The sessions of a log: its whole and exact lines, in order. What stands behind the last newline, any other line, and a
+/// line that would add a session to 65,536 change nothing.
+pub fn fold_log(alloc: Global, bytes: &[u8]) -> Result<Sessions, NoMemory>
+    ensures { IfOk result (λ sessions. sessions ≡ without_room (folded bytes.now)) }
+{
+    let list = folded(alloc, bytes)?;
+    Ok(Sessions {
+        alloc,
+        shared: Some(fitting(alloc, list)?),
+        room: None,
+    })
+}
