@@ -1,5 +1,5 @@
 -- Sessions that are kept under their places.
-use Rattle.std.proofs.Common.{◌≡◌, ℕ, Bool, true, false, cond, not, eqb, List, [], ◌∷◌, length, Option, Some, suc, refl, sym, ap, ◌∙◌}
+use Rattle.std.proofs.Common.{◌≡◌, ℕ, Bool, true, false, cond, not, eqb, List, [], ◌∷◌, length, Option, Some, None, is_some, suc, refl, sym, ap, ◌∙◌}
 use Rattle.std.specs.declared.cmp.Ordering.{Ordering}
 use Rattle.std.specs.declared.cmp.Ordering.TheVariants.{Less, Equal, Greater}
 use Rattle.std.specs.Ordering.{nat_cmp, ordering_then, match_ordering, is_eq}
@@ -12,7 +12,7 @@ use Rattle.std.proofs.lemmas.Bool.{true≢false}
 use Rattle.std.proofs.lemmas.Cmp.{ranked}
 use Rattle.rad_sessions.specs.declared.session.Session.{Session}
 use Rattle.rad_sessions.specs.Listed.{place_of, place_cmp, is_at, session_at, begun, ended, is_elsewhere, count_of}
-use Rattle.rad_sessions.specs.Keyed.{sessions_of, AreKeyed}
+use Rattle.rad_sessions.specs.Keyed.{sessions_of, AreKeyed, grown}
 
 same_number : (x y : ℕ) → nat_cmp x y ≡ Equal → x ≡ y
 same_number x y e = ranked x y Equal (sym e)
@@ -115,3 +115,8 @@ module _ {V : Type 0} (session : V → Session) where
     by_one : (b : Bool) → length (cond b (session e.1 ∷ filter (λ (s : Session). bytes_eq s.user user) (sessions_of session entries)) (filter (λ (s : Session). bytes_eq s.user user) (sessions_of session entries))) ≡ cond b (suc (count_of user (sessions_of session entries))) (count_of user (sessions_of session entries))
     by_one true = refl
     by_one false = refl
+
+  -- By how many entries a list grows, seen by the session that stands at the place.
+  pub grown_by : (one : Option V) (two : Option Session) → option_map session one ≡ two → cond (is_some one) 0 1 ≡ grown two
+  grown_by None two e = ap grown e
+  grown_by (Some v) two e = ap grown e

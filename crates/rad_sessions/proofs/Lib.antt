@@ -4,3 +4,4 @@ pub mod LogLines
 pub mod Logging
 pub mod Keying
 pub mod LineByLine
+mod Sizes

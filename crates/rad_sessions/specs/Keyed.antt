@@ -20,6 +20,11 @@ abbrev pub list_of : {V : Type 0} → (V → List Session) → Option V → List
 list_of sessions None = []
 list_of sessions (Some shared) = sessions shared
 
+-- How many sessions more there are where one begins, by the session that stands at its place.
+abbrev pub grown : Option Session → ℕ
+grown None = 1
+grown (Some session) = 0
+
 -- A list that is ready to take another's place is that list after the change that it was made for, and isn't too long.
 pub record IsReady (sessions : List Session) (change : Change) (ready : List Session) : Type 0 where
   pub is : ready ≡ after sessions change

@@ -1,7 +1,7 @@
 //! What changes and the lines of a log do to a list of sessions.
 
-ghost use Rattle.std.specs.Prelude.{◌≡◌, OnOk};
-ghost use Rattle.rad_sessions.specs.Listed.{after, is_too_many};
+ghost use Rattle.std.specs.Prelude.{◌≡◌, ◌≤◌, false, length, OnOk};
+ghost use Rattle.rad_sessions.specs.Listed.{after, is_too_many, limit};
 ghost use Rattle.rad_sessions.specs.Log.{after_said, after_line};
 
 use crate::change::Change;
@@ -14,7 +14,8 @@ impl Listed {
     /// The list after a change.
     #[tactic(auto, unfolding(crate::specs::Listed::after))]
     pub(crate) fn change(&mut self, alloc: Global, change: Change) -> Result<(), NoMemory>
-        ensures { OnOk result (self.new ≡ after self.old change) }
+        ensures list { OnOk result (self.new ≡ after self.old change) }
+        ensures fits { OnOk result (is_too_many self.old change ≡ false → length self.old ≤ limit → length self.new ≤ limit) }
     {
         match change {
             Change::Begin(session) => self.begin(alloc, session),
@@ -44,7 +45,8 @@ impl Listed {
 
     /// The list after what a line says.
     fn after_said(&mut self, alloc: Global, said: Option<Change>) -> Result<(), NoMemory>
-        ensures { OnOk result (self.new ≡ after_said self.old said) }
+        ensures list { OnOk result (self.new ≡ after_said self.old said) }
+        ensures fits { OnOk result (length self.old ≤ limit → length self.new ≤ limit) }
     {
         match said {
             Some(change) => {
@@ -60,7 +62,8 @@ impl Listed {
 
     /// The list after a line of a log.
     pub(crate) fn after_line(&mut self, alloc: Global, line: &[u8]) -> Result<(), NoMemory>
-        ensures { OnOk result (self.new ≡ after_line self.old line.now) }
+        ensures list { OnOk result (self.new ≡ after_line self.old line.now) }
+        ensures fits { OnOk result (length self.old ≤ limit → length self.new ≤ limit) }
     {
         let said = change_of(alloc, line)?;
         self.after_said(alloc, said)

@@ -1,6 +1,7 @@
 //! The sessions of a log.
 
-ghost use Rattle.std.specs.Prelude.{◌≡◌, IfOk};
+ghost use Rattle.std.specs.Prelude.{◌≡◌, ◌≤◌, length, IfOk};
+ghost use Rattle.rad_sessions.specs.Listed.{limit};
 ghost use Rattle.rad_sessions.specs.Log.{folded};
 
 use crate::cut::cut_at;
@@ -10,7 +11,8 @@ use std::alloc::Global;
 
 /// The list of the sessions of a log, a line at a time.
 pub(crate) fn folded(alloc: Global, bytes: &[u8]) -> Result<Listed, NoMemory>
-    ensures { IfOk result (λ listed. listed ≡ folded bytes.now) }
+    ensures list { IfOk result (λ listed. listed ≡ folded bytes.now) }
+    ensures fits { IfOk result (λ listed. length listed ≤ limit) }
 {
     let mut listed = Listed::new(alloc);
     let mut rest = bytes;

@@ -1,9 +1,10 @@
 //! A list of sessions in which a place is found without a look at the others.
 
-ghost use Rattle.std.specs.Prelude.{◌≡◌, ◌≤◌, [], length, OnOk, IfOk};
+ghost use Rattle.std.specs.Prelude.{◌≡◌, ◌≤◌, ◌+◌, [], length, OnOk, IfOk};
 ghost use Rattle.std.specs.Option.{option_copied};
 ghost use Rattle.std.specs.List.{filter};
-ghost use Rattle.rad_sessions.specs.Listed.{session_at, begun, ended, begun_again, renewed_at, is_elsewhere, count_of, limit};
+ghost use Rattle.rad_sessions.specs.Keyed.{grown};
+ghost use Rattle.rad_sessions.specs.Listed.{place_of, session_at, begun, ended, begun_again, renewed_at, is_elsewhere, count_of, limit};
 
 use crate::session::Session;
 use crate::session_list::SessionList;
@@ -61,7 +62,8 @@ impl Listed {
 
     /// One session more in its place, instead of one there.
     pub(crate) fn begin(&mut self, alloc: Global, session: Session) -> Result<(), NoMemory>
-        ensures { OnOk result (self.new ≡ begun session self.old) }
+        ensures list { OnOk result (self.new ≡ begun session self.old) }
+        ensures grown { OnOk result (length self.new ≡ length self.old + grown (session_at (place_of session) self.old)) }
     {
         let place = (session.nas, session.port);
         let shared = Arc::new(alloc, session)?;
@@ -71,14 +73,16 @@ impl Listed {
 
     /// Without the session at a place.
     pub(crate) fn end(&mut self, nas: u32, port: u32)
-        ensures { self.new ≡ ended (nas, port) self.old }
+        ensures list { self.new ≡ ended (nas, port) self.old }
+        ensures shorter { length self.new ≤ length self.old }
     {
         self.entries.remove(&(nas, port));
     }
 
     /// Without the sessions of a NAS.
     pub(crate) fn clear(&mut self, nas: u32)
-        ensures { self.new ≡ filter (is_elsewhere nas) self.old }
+        ensures list { self.new ≡ filter (is_elsewhere nas) self.old }
+        ensures shorter { length self.new ≤ length self.old }
     {
         self.entries.retain(|place, _| place.0 != nas);
     }
@@ -91,7 +95,8 @@ impl Listed {
         port: u32,
         framed: u32,
     ) -> Result<(), NoMemory>
-        ensures { OnOk result (self.new ≡ begun_again (renewed_at (nas, port) framed self.old) self.old) }
+        ensures list { OnOk result (self.new ≡ begun_again (renewed_at (nas, port) framed self.old) self.old) }
+        ensures length { OnOk result (length self.new ≡ length self.old) }
     {
         match self.renewed_at(alloc, nas, port, framed)? {
             Some(session) => self.begin(alloc, session),

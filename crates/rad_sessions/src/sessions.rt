@@ -1,8 +1,8 @@
 //! The sessions that a server keeps, and room for their next change.
 
-ghost use Rattle.std.specs.Prelude.{◌≡◌, ◌≤◌, [], List, Some, None, length, OnOk, OnErr, IfOk};
+ghost use Rattle.std.specs.Prelude.{◌≡◌, [], Some, None, false, OnOk, OnErr, IfOk};
 ghost use Rattle.std.specs.Option.{option_copied};
-ghost use Rattle.rad_sessions.specs.Listed.{session_at, after, count_of, is_too_many, limit};
+ghost use Rattle.rad_sessions.specs.Listed.{session_at, after, count_of, is_too_many};
 ghost use Rattle.std.specs.Arc.{arc_value};
 ghost use Rattle.rad_sessions.specs.Keyed.{IsReady};
 ghost use Rattle.rad_sessions.specs.Kept.{Kept, without_room, IsFullWhere};
@@ -137,6 +137,7 @@ impl Sessions {
 
     /// The list after a change, beside the present one.
     fn room_for(&self, change: &Change) -> Result<Room, NoMemory>
+        requires { is_too_many self.now.sessions change.now ≡ false }
         ensures { IfOk result (λ room. (room.change ≡ change.now) × IsReady self.now.sessions change.now (arc_value room.ready)) }
     {
         let kept = change.copy(self.alloc)?;
@@ -150,11 +151,12 @@ impl Sessions {
 
     /// The list after a change.
     fn list_after(&self, change: Change) -> Result<Arc<Listed>, NoMemory>
+        requires { is_too_many self.now.sessions change ≡ false }
         ensures { IfOk result (λ ready. IsReady self.now.sessions change (arc_value ready)) }
     {
         let mut list = self.list()?;
         list.change(self.alloc, change)?;
-        fitting(self.alloc, list)
+        Ok(Arc::new(self.alloc, list)?)
     }
 
     /// A list of the same sessions.
@@ -178,17 +180,6 @@ impl Sessions {
     }
 }
 
-/// A list to share.
-fn fitting(alloc: Global, list: Listed) -> Result<Arc<Listed>, NoMemory>
-    ensures list { IfOk result (λ shared. arc_value shared ≡ list) }
-    ensures fits { IfOk result (λ shared. length (arc_value shared) ≤ limit) }
-{
-    if list.len() > 65536 {
-        return Err(NoMemory);
-    }
-    Ok(Arc::new(alloc, list)?)
-}
-
 /// The sessions of a log: its whole and exact lines, in order. What stands behind the last newline, any other line, and a
 /// line that would add a session to 65,536 change nothing.
 pub fn fold_log(alloc: Global, bytes: &[u8]) -> Result<Sessions, NoMemory>
@@ -197,7 +188,7 @@ pub fn fold_log(alloc: Global, bytes: &[u8]) -> Result<Sessions, NoMemory>
     let list = folded(alloc, bytes)?;
     Ok(Sessions {
         alloc,
-        shared: Some(fitting(alloc, list)?),
+        shared: Some(Arc::new(alloc, list)?),
         room: None,
     })
 }
