@@ -1,12 +1,12 @@
 -- Sessions that are kept under their places.
-use Rattle.std.proofs.Common.{◌≡◌, ℕ, Bool, true, false, cond, not, eqb, List, [], ◌∷◌, length, Option, Some, None, is_some, suc, refl, sym, ap, ◌∙◌}
+use Rattle.std.proofs.Common.{◌≡◌, ℕ, Bool, true, false, cond, not, eqb, List, [], ◌∷◌, length, map, Option, Some, None, is_some, suc, refl, sym, ap, ◌∙◌}
 use Rattle.std.specs.declared.cmp.Ordering.{Ordering}
 use Rattle.std.specs.declared.cmp.Ordering.TheVariants.{Less, Equal, Greater}
 use Rattle.std.specs.Ordering.{nat_cmp, ordering_then, match_ordering, is_eq}
 use Rattle.std.specs.Option.{option_map}
 use Rattle.std.specs.List.{AllZip, filter}
 use Rattle.std.specs.Str.{bytes_eq}
-use Rattle.std.specs.Map.{lookup, remove_entry}
+use Rattle.std.specs.Map.{lookup, remove_entry, keys_of}
 use Rattle.std.specs.BTreeMap.{insert_entry}
 use Rattle.std.proofs.lemmas.Bool.{true≢false}
 use Rattle.std.proofs.lemmas.Cmp.{ranked}
@@ -120,3 +120,8 @@ module _ {V : Type 0} (session : V → Session) where
   pub grown_by : (one : Option V) (two : Option Session) → option_map session one ≡ two → cond (is_some one) 0 1 ≡ grown two
   grown_by None two e = ap grown e
   grown_by (Some v) two e = ap grown e
+
+  -- Entries that are kept under their places have the places of their sessions as keys.
+  pub keyed_places : (entries : List ((ℕ × ℕ) × V)) → AreKeyed session entries → keys_of entries ≡ map place_of (sessions_of session entries)
+  keyed_places [] all = refl
+  keyed_places (e ∷ entries) all = ap (λ k. k ∷ keys_of entries) all.0 ∙ ap (λ rest. place_of (session e.1) ∷ rest) (keyed_places entries all.1)

@@ -2,9 +2,10 @@
 use Rattle.std.proofs.Common.{◌≡◌, ◌≤◌, ◌+◌, ℕ, Bool, true, false, cond, not, ◌&&◌, List, [], ◌∷◌, length, Option, Some, None, is_some, suc, refl, sym, ap, ◌∙◌, nat_le, arith, filter, Ordering, Less, Equal, Greater, Result, Ok, Err}
 use Rattle.std.proofs.lemmas.Bool.{leb-false}
 use Rattle.std.specs.Result.{OnOk}
+use Rattle.std.specs.List.Sorted.{IsStrictlySortedBy}
 use Rattle.std.specs.Ordering.{is_eq}
 use Rattle.rad_sessions.specs.declared.session.Session.{Session}
-use Rattle.rad_sessions.specs.Listed.{place_of, place_cmp, is_at, session_at, ended, renewed_at, with_framed, limit}
+use Rattle.rad_sessions.specs.Listed.{AreInOrder, place_of, place_cmp, is_at, session_at, ended, renewed_at, with_framed, limit}
 use Rattle.rad_sessions.specs.Keyed.{grown}
 use Rattle.rad_sessions.proofs.Keying.{same_place}
 
@@ -65,3 +66,8 @@ begun_fits sessions (Some s) free fits = omega (arith, fits)
 pub on_ok : {T E P Q : Type 0} (result : Result T E) → (P → Q) → OnOk result P → OnOk result Q
 on_ok (Ok value) follows holds = follows holds
 on_ok (Err error) follows holds = holds
+
+-- No sessions stand in order.
+pub none_in_order : AreInOrder []
+unfolding IsStrictlySortedBy
+none_in_order = tt

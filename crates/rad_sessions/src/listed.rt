@@ -4,7 +4,7 @@ ghost use Rattle.std.specs.Prelude.{◌≡◌, ◌≤◌, ◌+◌, [], length, O
 ghost use Rattle.std.specs.Option.{option_copied};
 ghost use Rattle.std.specs.List.{filter};
 ghost use Rattle.rad_sessions.specs.Keyed.{grown};
-ghost use Rattle.rad_sessions.specs.Listed.{place_of, session_at, begun, ended, begun_again, renewed_at, is_elsewhere, count_of, limit};
+ghost use Rattle.rad_sessions.specs.Listed.{AreInOrder, place_of, session_at, begun, ended, begun_again, renewed_at, is_elsewhere, count_of, limit};
 
 use crate::session::Session;
 use crate::session_list::SessionList;
@@ -136,10 +136,11 @@ impl Listed {
 
     /// The sessions in order.
     pub(crate) fn sorted(&self, alloc: Global) -> Result<SessionList, NoMemory>
-        ensures { IfOk result (λ list. list ≡ self.now) }
+        ensures list { IfOk result (λ list. list ≡ self.now) }
+        ensures order { OnOk result (AreInOrder self.now) }
     {
         let mut items = Vec::new(alloc);
-        for (_, session) in &self.entries {
+        for (_, session) in self.entries.iter() {
             items.push(Arc::try_clone(session)?)?;
         }
         Ok(SessionList::from_vec(items))

@@ -2,7 +2,7 @@
 
 ghost use Rattle.std.specs.Prelude.{◌≡◌, [], Some, None, false, OnOk, OnErr, IfOk};
 ghost use Rattle.std.specs.Option.{option_copied};
-ghost use Rattle.rad_sessions.specs.Listed.{session_at, after, count_of, is_too_many};
+ghost use Rattle.rad_sessions.specs.Listed.{AreInOrder, session_at, after, count_of, is_too_many};
 ghost use Rattle.std.specs.Arc.{arc_value};
 ghost use Rattle.rad_sessions.specs.Keyed.{IsReady};
 ghost use Rattle.rad_sessions.specs.Kept.{Kept, without_room, IsFullWhere};
@@ -169,9 +169,10 @@ impl Sessions {
         }
     }
 
-    /// The sessions in order of their places.
+    /// The sessions in order of their places, no two at one.
     pub fn sorted(&self) -> Result<SessionList, NoMemory>
-        ensures { IfOk result (λ list. list ≡ self.now.sessions) }
+        ensures list { IfOk result (λ list. list ≡ self.now.sessions) }
+        ensures order { OnOk result (AreInOrder self.now.sessions) }
     {
         match &self.shared {
             Some(listed) => listed.sorted(self.alloc),
