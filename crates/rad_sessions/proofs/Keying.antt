@@ -27,6 +27,15 @@ same_place p q e = (elim (nat_cmp p.0 q.0) as (λ o. nat_cmp p.0 q.0 ≡ o → o
   | Greater ↦ λ first is. absurd (true≢false (sym (ap is_eq is)))
 ]) refl e
 
+-- A session that is at a place is of that place.
+pub at_place : (place : ℕ × ℕ) (s : Session) → is_at place s ≡ true → place ≡ place_of s
+at_place place s e = by (place_cmp place (place_of s)) refl e
+  where
+    by : (o : Ordering) → place_cmp place (place_of s) ≡ o → is_eq o ≡ true → place ≡ place_of s
+    by Less q is = absurd cc
+    by Equal q is = same_place place (place_of s) q
+    by Greater q is = absurd cc
+
 module _ {V : Type 0} (session : V → Session) where
   -- The entry is kept under its place.
   abbrev pub IsKeyed : (ℕ × ℕ) × V → Type 0

@@ -5,3 +5,4 @@ pub mod Logging
 pub mod Keying
 pub mod LineByLine
 mod Sizes
+mod Standing

@@ -1,13 +1,12 @@
 -- How many sessions there are after a change.
-use Rattle.std.proofs.Common.{◌≡◌, ◌≤◌, ◌+◌, ℕ, Bool, true, false, cond, not, ◌&&◌, List, [], ◌∷◌, length, Option, Some, None, is_some, suc, refl, sym, ap, ◌∙◌, nat_le, arith, filter, Ordering, Less, Equal, Greater, Result, Ok, Err}
+use Rattle.std.proofs.Common.{◌≡◌, ◌≤◌, ◌+◌, ℕ, Bool, true, false, cond, not, ◌&&◌, List, [], ◌∷◌, length, Option, Some, None, is_some, suc, refl, sym, ap, ◌∙◌, nat_le, arith, filter, Result, Ok, Err}
 use Rattle.std.proofs.lemmas.Bool.{leb-false}
 use Rattle.std.specs.Result.{OnOk}
 use Rattle.std.specs.List.Sorted.{IsStrictlySortedBy}
-use Rattle.std.specs.Ordering.{is_eq}
 use Rattle.rad_sessions.specs.declared.session.Session.{Session}
-use Rattle.rad_sessions.specs.Listed.{AreInOrder, place_of, place_cmp, is_at, session_at, ended, renewed_at, with_framed, limit}
+use Rattle.rad_sessions.specs.Listed.{AreInOrder, place_of, is_at, session_at, ended, renewed_at, with_framed, limit}
 use Rattle.rad_sessions.specs.Keyed.{grown}
-use Rattle.rad_sessions.proofs.Keying.{same_place}
+use Rattle.rad_sessions.proofs.Keying.{at_place}
 
 -- No more are there without the one at a place.
 pub ended_shorter : (place : ℕ × ℕ) (sessions : List Session) → length (ended place sessions) ≤ length sessions
@@ -32,15 +31,10 @@ found_there : (place : ℕ × ℕ) (sessions : List Session) (s : Session) → s
 found_there place [] s e = absurd cc
 found_there place (first ∷ sessions) s e = by (is_at place first) refl (λ f. found_there place sessions s f) e
   where
-    placed : (o : Ordering) → place_cmp place (place_of first) ≡ o → is_eq o ≡ true → place ≡ place_of first
-    placed Less q is = absurd cc
-    placed Equal q is = same_place place (place_of first) q
-    placed Greater q is = absurd cc
-
     by : (b : Bool) → is_at place first ≡ b → (session_at place sessions ≡ Some s → place ≡ place_of s) → cond b (Some first) (session_at place sessions) ≡ Some s → place ≡ place_of s
     by true is behind f =
         let same : first ≡ s = cc in
-        placed (place_cmp place (place_of first)) refl is ∙ ap place_of same
+        at_place place first is ∙ ap place_of same
     by false is behind f = behind f
 
 -- A session that has another address stands where one stood.

@@ -21,7 +21,7 @@ mod written;
 
 pub use change::Change;
 pub use fault::RoomFault;
-pub use laws::{lines_are_read_back, logs_say_the_whole_pieces};
+pub use laws::{lines_are_read_back, logs_say_the_whole_pieces, sessions_stand_until_they_end};
 pub use session::Session;
 pub use session_list::SessionList;
 pub use sessions::{Sessions, fold_log};
