@@ -1,6 +1,5 @@
 pub mod Weight
 pub mod Opens
-pub mod Tellings
 pub mod WordLemmas
 pub mod Sources
 pub mod Going

@@ -1,8 +1,9 @@
 -- How the core's Rust values are seen in the history. This project's own.
-use Rattle.std.specs.Prelude.{ℕ, ◌≡◌, ◌≤◌, List, Bool, Some, Result, Ok, Err, length}
+use Rattle.std.specs.Prelude.{ℕ, ◌≡◌, List, Bool, Some, Result, Ok, Err, length}
 use Rattle.std.specs.Arc.{arc_value}
 use Rattle.std.specs.declared.sync.Arc.{Arc}
 use Rattle.std.specs.declared.alloc.Global.{Global}
+use Rattle.rad_outside.specs.Moments.{IsInTime}
 use Rattle.rad_policy.specs.declared.arrival.Arrival.{Arrival}
 use Rattle.rad_policy.specs.declared.arrival.Arrived.{Arrived}
 use Rattle.rad_policy.specs.declared.outcome.Outcome.{Outcome}
@@ -32,7 +33,7 @@ load_seen (Err fault) = Err fault
 -- A ticket has the generation and the moment of its place.
 abbrev pub IsTicketOf : {P : Type 0} → ServerState P → Started P → Type 0
 IsTicketOf state (started.Fresh ticket) =
-    (state.present ≡ Some (arc_value ticket.generation)) × (state.moment ≡ ticket.moment) × (ticket.moment ≤ 250000000000)
+    (state.present ≡ Some (arc_value ticket.generation)) × (state.moment ≡ ticket.moment) × (IsInTime ticket.moment)
 IsTicketOf state (started.Dropped cause) = Unit {0}
 IsTicketOf state started.NoMemory = Unit {0}
 
@@ -41,7 +42,7 @@ pub record Admits {P : Type 0} (old : ServerState P) (arrival : Arrived) (ticket
   pub present : old.present ≡ Some (arc_value ticket.generation)
   pub place : ticket.place ≡ old.entries
   pub moment : ticket.moment ≡ old.moment
-  pub in_time : ticket.moment ≤ 250000000000
+  pub in_time : IsInTime ticket.moment
   pub next : new ≡ with_request ticket.place arrival (arc_value ticket.generation) old
 
 -- The request of a ticket is in progress for this worker, under the ticket's generation and moment, and the policy

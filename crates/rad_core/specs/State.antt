@@ -1,5 +1,6 @@
 -- The state of the server: the present generation, the moment, and the requests in progress. This project's own.
 use Rattle.std.specs.Prelude.{ℕ, ◌+◌, ◌-◌, ◌^◌, ◌==◌, min, max, List, [], ◌∷◌, ◌++◌, length, Option, Some, None, Bool, true, false, not, filter}
+use Rattle.rad_outside.specs.Moments.{last_moment}
 use Rattle.rad_policy.specs.declared.arrival.Arrived.{Arrived}
 use Rattle.rad_core.specs.declared.seen.Seen.{Seen}
 
@@ -24,9 +25,9 @@ pub record ServerState (P : Type 0) : Type 0 where
 abbrev pub opening : {P : Type 0} → ServerState P
 opening = record { present = None; generations = 0; moment = 0; is_stopped = false; entries = 0; table = [] }
 
--- The moment rule: the moment becomes the greater of itself and the clock's seconds, which are cut at 250,000,000,000.
+-- The moment rule: the moment becomes the greater of itself and the clock's seconds, which are cut at the last moment.
 abbrev pub at_moment : {P : Type 0} → ℕ → ServerState P → ServerState P
-at_moment now state = record state { moment = max state.moment (min now 250000000000) }
+at_moment now state = record state { moment = max state.moment (min now last_moment) }
 
 -- One more entry stands in the history.
 abbrev pub counted : {P : Type 0} → ServerState P → ServerState P

@@ -1,4 +1,5 @@
 ghost use Rattle.std.specs.Prelude.{◌≤◌};
+ghost use Rattle.rad_outside.specs.Moments.{IsInTime};
 
 use crate::row::Row;
 use rad_outside::Octets;
@@ -19,7 +20,7 @@ pub struct Core<P, L> {
     pub(crate) entries: u64,
     pub(crate) table: Vec<Row<P>>,
     ghost one_each: { generations ≤ entries },
-    ghost in_time: { moment ≤ 250000000000 },
+    ghost in_time: { IsInTime moment },
 }
 
 impl<P: Policy, L> Core<P, L> {

@@ -10,12 +10,10 @@ ghost use Rattle.rad_core.specs.Core.{state_of, origin_of};
 use crate::machine::Core;
 use crate::row::Row;
 use crate::started::{Started, Ticket};
-use rad_outside::NoMemory;
+use rad_outside::{LAST_MOMENT, NoMemory};
 use rad_packet::{DropCause, check};
 use rad_policy::{Arrival, Arrived, Policy};
 use std::sync::Arc;
-
-const LAST_MOMENT: u64 = 250_000_000_000;
 
 impl<P: Policy, L> Core<P, L> {
     /// A datagram of an auth listener came in: it is dropped, or it is a fresh request that waits for its `finish`.

@@ -1,11 +1,9 @@
 pub mod Lookups
-pub mod PlacesLemmas
 pub mod NameWords
 pub mod WrittenWords
 pub mod WrittenFiles
 pub mod WrittenDefinitions
 pub mod Indexed
-pub mod Tellings
 pub mod Readings
 pub mod Growing
 pub mod BaseDictionary

@@ -19,7 +19,7 @@ use Rattle.rad_dict.specs.Answers.{says, IsFault, IsAnswer}
 use Rattle.rad_dict.specs.Steps.{step_of}
 use Rattle.rad_dict.specs.Includes.{found_at, text_of, Include, went, ended, lines_read, counted, source_at, include_read, text_read, dict_from, dict_of}
 use Rattle.rad_dict.specs.Definitions.{Definitions}
-use Rattle.rad_dict.proofs.Tellings.{Tells-trans}
+use Rattle.rad_outside.proofs.Tellings.{Tells-trans}
 
 -- One line, and then the others.
 pub one_line : (include : Include) (file : List ℕ) (line : ℕ) (reading : Reading) (here : List ℕ) (others : List (List ℕ))

@@ -1,6 +1,4 @@
 pub mod Keys
-pub mod Places
-pub mod Search
 pub mod Rows
 pub mod BaseAttributes
 pub mod BaseValues

@@ -6,9 +6,9 @@ ghost use Rattle.std.specs.Str.{str_eq_ignore_ascii_case};
 ghost use Rattle.rad_words.specs.Attribute.{same_attr};
 
 use crate::AttrDef;
-use crate::index::Index;
 use crate::keys::{attr_key, name_key};
 use crate::search::{attr_at, attr_named_at};
+use rad_index::Index;
 use rad_outside::NoMemory;
 use rad_words::AttrId;
 use std::alloc::Global;

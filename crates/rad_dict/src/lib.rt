@@ -12,7 +12,6 @@ mod definitions;
 mod dictionary;
 mod fault;
 mod including;
-mod index;
 mod keys;
 mod laws;
 mod line;

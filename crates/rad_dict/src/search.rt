@@ -5,7 +5,7 @@ ghost use Rattle.std.specs.Option.{option_copied};
 ghost use Rattle.std.specs.Str.{str_eq_ignore_ascii_case};
 ghost use Rattle.rad_words.specs.Attribute.{same_attr};
 ghost use Rattle.rad_dict.specs.Definitions.{is_name_of, is_number_of};
-ghost use Rattle.rad_dict.specs.Search.{found_at};
+ghost use Rattle.rad_index.specs.Search.{found_at};
 
 use crate::{AttrDef, ValueDef};
 use rad_outside::Octets;

@@ -5,9 +5,9 @@ ghost use Rattle.std.specs.Option.{option_copied};
 ghost use Rattle.rad_dict.specs.Definitions.{is_name_of, is_number_of};
 
 use crate::ValueDef;
-use crate::index::Index;
 use crate::keys::{attr_key, key_with, name_key};
 use crate::search::{value_named_at, value_numbered_at};
+use rad_index::Index;
 use rad_outside::NoMemory;
 use rad_words::AttrId;
 use std::alloc::Global;

@@ -4,3 +4,4 @@ pub mod Wire
 pub mod Shelf
 pub mod Sink
 pub mod Crew
+pub mod Moments

@@ -1,6 +1,9 @@
 ghost use Rattle.std.specs.Prelude.{◌≡◌, ◌++◌, ◌∷◌, [], ℕ, List, Option};
 ghost use Rattle.rad_outside.specs.Telling.{Tells};
 
+/// The last moment that the server counts to, in seconds since 1970 (9892-03-08 12:26:40 UTC). This project's own.
+pub const LAST_MOMENT: u64 = 250_000_000_000;
+
 /// A clock. It never fails.
 pub trait Clock {
     /// The moments that it has given, in order.

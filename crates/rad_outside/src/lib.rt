@@ -18,7 +18,7 @@ mod shelf;
 mod sink;
 mod wire;
 
-pub use clock::{Clock, Luck};
+pub use clock::{Clock, LAST_MOMENT, Luck};
 pub use crew::{Crew, Kit};
 pub use fault::{Failed, KitFault, NoMemory};
 pub use files::{Files, Found, Listed, Place};

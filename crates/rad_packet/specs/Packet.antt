@@ -20,12 +20,15 @@ pub record AreAttributes (attributes : List Attribute) (octets : List ℕ) : Typ
 abbrev pub code_of : List ℕ → ℕ
 code_of octets = slice_index octets 0
 
+-- The Identifier of a packet, its second octet (RFC 2865 section 3).
 abbrev pub id_of : List ℕ → ℕ
 id_of octets = slice_index octets 1
 
+-- The Length of a packet, in its third and fourth octet, big-endian (RFC 2865 section 3).
 abbrev pub length_of : List ℕ → ℕ
 length_of octets = 256 * slice_index octets 2 + slice_index octets 3
 
+-- The Authenticator of a packet, 16 octets behind its Length (RFC 2865 section 3).
 abbrev pub authenticator_of : List ℕ → List ℕ
 authenticator_of octets = take 16 (drop 4 octets)
 

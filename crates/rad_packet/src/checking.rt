@@ -12,6 +12,9 @@ use crate::client::Client;
 use crate::signatures::{accounting_authenticator, is_intact};
 use rad_outside::ListenKind;
 
+/// The most octets of a packet (RFC 2865 section 3).
+pub const LONGEST_PACKET: usize = 4096;
+
 /// A packet that was checked: its code, its identifier, and the datagram's octets up to its Length.
 #[derive(Clone, Copy, Debug)]
 pub struct Checked<'a> {
@@ -82,7 +85,7 @@ fn packet_for(bytes: &[u8], kind: ListenKind) -> Result<Checked, DropCause>
         return Err(DropCause::Short);
     }
     let length = usize::from(u16::from_be_bytes([bytes[2], bytes[3]]));
-    if length < 20 || length > 4096 || length > bytes.len() {
+    if length < 20 || length > LONGEST_PACKET || length > bytes.len() {
         return Err(DropCause::BadLength);
     }
     if !is_code_for(kind, bytes[0]) {

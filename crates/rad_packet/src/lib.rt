@@ -17,7 +17,7 @@ mod signatures;
 
 pub use attributes::{Front, are_attributes, split_front};
 pub use cause::DropCause;
-pub use checking::{Checked, check};
+pub use checking::{Checked, LONGEST_PACKET, check};
 pub use client::Client;
 pub use hiding::{
     HideFault, RevealFault, carried, hidden_passwords_are_revealed, hide, is_hidden_length, reveal,

@@ -2,6 +2,7 @@ ghost use Rattle.std.specs.Prelude.{◌≡◌, ◌≤◌, Err};
 ghost use Rattle.std.specs.Option.{option_copied};
 ghost use Rattle.rad_outside.specs.Telling.{Tells, Counts};
 ghost use Rattle.rad_outside.specs.Files.{begun};
+ghost use Rattle.rad_outside.specs.Moments.{IsInTime};
 ghost use Rattle.rad_outside.specs.declared.listen.ListenKind.TheVariants.{Auth};
 ghost use Rattle.rad_policy.specs.Policy.{Meaning, IsBuilt};
 ghost use Rattle.rad_policy.specs.Policy.{IsAuthenticUnder};
@@ -59,7 +60,7 @@ pub trait Policy: Drop {
     ) -> Outcome
         requires authentic { IsAuthenticUnder meaning self.now (arrived_of arrival.now) }
         requires auth { arrival.now.kind ≡ Auth }
-        requires moment { moment ≤ 250000000000 }
+        requires moment { IsInTime moment }
         ensures outcome { GivesOutcome meaning self.now (arrived_of arrival.entry.now) moment luck result }
         ensures limit { FitsDatagram result }
         ensures shelf { shelf.new ≡ shelf.old };

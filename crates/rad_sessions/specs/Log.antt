@@ -102,9 +102,11 @@ session_at text = do
   id ← cut_at 32 user.1
   Some (record { nas = nas.0; port = port.0; framed = framed.0; since = seconds_after 0 since.0; user = octets_of user.0; id = octets_of id.0 })
 
+-- The change of a text behind `begin `.
 abbrev pub begin_at : List ℕ → Option Change
 begin_at text = option_map Begin (session_at text)
 
+-- The change of a text behind `renew `: NAS, port and framed address.
 unfoldable pub renew_at : List ℕ → Option Change
 renew_at text = do
   nas ← address_at text
@@ -112,12 +114,14 @@ renew_at text = do
   framed ← address_at port.1
   Some (Renew nas.0 port.0 framed.0)
 
+-- The change of a text behind `end `: NAS and port.
 unfoldable pub end_at : List ℕ → Option Change
 end_at text = do
   nas ← address_at text
   port ← number_at nas.1
   Some (End nas.0 port.0)
 
+-- The change of a text behind `clear `: the NAS.
 unfoldable pub clear_at : List ℕ → Option Change
 clear_at text = do
   nas ← address_at text
@@ -147,6 +151,7 @@ abbrev pub after_said : List Session → Option Change → List Session
 after_said sessions None = sessions
 after_said sessions (Some change) = if is_too_many sessions change then sessions else after sessions change
 
+-- The sessions after a line: one that says no change leaves them.
 abbrev pub after_line : List Session → List ℕ → List Session
 after_line sessions line = after_said sessions (change_of line)
 

@@ -9,11 +9,14 @@ pub use Rattle.mod_files.specs.LineItems.{cleartext_password}
 abbrev pub internal : ℕ → AttrId
 internal number = record { space = Internal; number = number }
 
+-- User-Password (RFC 2865 section 5.2).
 abbrev pub user_password : AttrId
 user_password = standard 2
 
+-- Reply-Message (RFC 2865 section 5.18).
 abbrev pub reply_message : AttrId
 reply_message = standard 18
 
+-- Auth-Type, the first internal attribute.
 abbrev pub auth_type : AttrId
 auth_type = internal 1

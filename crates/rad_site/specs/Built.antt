@@ -31,18 +31,23 @@ conf_name = codes "radiusd.conf"
 abbrev pub dict_name : List ℕ
 dict_name = codes "dictionary"
 
+-- The place of what the whole configuration lacks: line 0.
 abbrev pub whole_conf : Place
 whole_conf = record { file = conf_name; line = 0 }
 
+-- A block of a client.
 abbrev pub is_client : Node → Bool
 is_client = is_block (codes "client")
 
+-- A block of a virtual server.
 abbrev pub is_server : Node → Bool
 is_server = is_block (codes "server")
 
+-- A block of modules.
 abbrev pub is_modules : Node → Bool
 is_modules = is_block (codes "modules")
 
+-- Anything else at the top.
 abbrev pub is_other : Node → Bool
 is_other node = not (is_client node || is_modules node || is_server node)
 

@@ -17,6 +17,7 @@ fault_of (conf.TooLong place) = fault.Conf (conf.TooLong place)
 fault_of conf.ReadFault = fault.ReadFault
 fault_of conf.NoMemory = fault.NoMemory
 
+-- What a reading of the configuration answers, as an answer of a build.
 abbrev pub of_conf : {A : Type 0} → Result A ConfFault → Result A BuildFault
 of_conf (Ok x) = Ok x
 of_conf (Err wrong) = Err (fault_of wrong)

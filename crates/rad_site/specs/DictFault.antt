@@ -16,6 +16,7 @@ fault_of (dict.TooLong place) = fault.Dict (dict.TooLong place)
 fault_of dict.ReadFault = fault.ReadFault
 fault_of dict.NoMemory = fault.NoMemory
 
+-- What a reading of the dictionary answers, as an answer of a build.
 abbrev pub of_dict : {A : Type 0} → Result A DictFault → Result A BuildFault
 of_dict (Ok x) = Ok x
 of_dict (Err wrong) = Err (fault_of wrong)

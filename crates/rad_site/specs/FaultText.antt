@@ -21,9 +21,11 @@ placed_text place reason = place.file ++ codes "[" ++ decimal place.line ++ code
 abbrev pub read_fault_text : List ℕ
 read_fault_text = codes "read fault"
 
+-- Want of memory.
 abbrev pub memory_text : List ℕ
 memory_text = codes "memory"
 
+-- A fault of the configuration: its place and its reason.
 abbrev pub conf_fault_text : ConfFault → List ℕ
 conf_fault_text (conf.Unclosed place) = placed_text place (codes "Unclosed")
 conf_fault_text (conf.Stray place) = placed_text place (codes "Stray")
@@ -35,10 +37,12 @@ conf_fault_text (conf.TooLong place) = placed_text place (codes "TooLong")
 conf_fault_text conf.ReadFault = read_fault_text
 conf_fault_text conf.NoMemory = memory_text
 
+-- A fault of a section: its place and its reason.
 abbrev pub tree_fault_text : TreeFault → List ℕ
 tree_fault_text (tree.NotBuilt place) = placed_text place (codes "NotBuilt")
 tree_fault_text tree.NoMemory = memory_text
 
+-- A fault of the dictionary: its place and its reason.
 abbrev pub dict_fault_text : DictFault → List ℕ
 dict_fault_text (dict.BadLine place) = placed_text place (codes "BadLine")
 dict_fault_text (dict.UnknownVendor place) = placed_text place (codes "UnknownVendor")
@@ -49,10 +53,12 @@ dict_fault_text (dict.TooLong place) = placed_text place (codes "TooLong")
 dict_fault_text dict.ReadFault = read_fault_text
 dict_fault_text dict.NoMemory = memory_text
 
+-- A fault of a users file: the file, the line and the reason.
 abbrev pub users_fault_text : List ℕ → UsersFault → List ℕ
 users_fault_text file (users.NotBuilt line) = placed_text (record { file = file; line = line }) (codes "NotBuilt")
 users_fault_text file users.NoMemory = memory_text
 
+-- Why a site could not be built, as it is printed behind the program's own words.
 abbrev pub fault_text : BuildFault → List ℕ
 fault_text (fault.Conf wrong) = conf_fault_text wrong
 fault_text (fault.Dict wrong) = dict_fault_text wrong

@@ -61,6 +61,7 @@ alone read others = no_items others >>= λ empty. Ok read
 abbrev pub is_first_files : List ℕ → Modules → Bool
 is_first_files kind known = bytes_eq kind (codes "files") && is_none known.users
 
+-- A block of pap where none stood before.
 abbrev pub is_first_pap : List ℕ → Modules → Bool
 is_first_pap kind known = bytes_eq kind (codes "pap") && not known.pap
 
@@ -70,6 +71,7 @@ with_files sources dict known place items = do
   users ← only place (filename_at sources dict) items
   Ok (record known { users = Some users })
 
+-- The modules with pap, whose block has no settings.
 abbrev pub with_pap : Modules → List Node → Result Modules BuildFault
 with_pap known items = do
   empty ← no_items items

@@ -7,6 +7,7 @@ use Rattle.rad_site.specs.declared.fault.BuildFault.TheVariants as fault
 use Rattle.rad_site.specs.declared.fault.TreeFault.TheVariants as tree
 
 infixl 10 ◌>>=◌
+-- One answer and then the next: the first fault ends it.
 abbrev pub ◌>>=◌ : {A B : Type 0} → Result A BuildFault → (A → Result B BuildFault) → Result B BuildFault
 (Ok x) >>= f = f x
 (Err e) >>= f = Err e
@@ -20,6 +21,7 @@ Fails (fault.Tree wrong) read = read ≡ Err (fault.Tree wrong)
 Fails fault.ReadFault read = ⊥
 Fails fault.NoMemory read = Unit {0}
 
+-- A function gives what is said, or memory ran out.
 abbrev pub Gives : {Y : Type 0} → Result Y BuildFault → Result Y BuildFault → Type 0
 Gives (Ok x) read = read ≡ Ok x
 Gives (Err e) read = Fails e read

@@ -15,6 +15,7 @@ use Rattle.rad_site.specs.Edits.{with_edit, auth_type_set}
 abbrev pub given_password : PairLists → Option (List ℕ)
 given_password lists = first_text user_password lists.request
 
+-- The password that is known of the user: the first Cleartext-Password of the control list.
 abbrev pub known_password : PairLists → Option (List ℕ)
 known_password lists = first_text cleartext_password lists.control
 

@@ -15,6 +15,7 @@ Misses (fault.Tree wrong) read = read ≡ Err (fault.Tree wrong)
 Misses fault.ReadFault read = Unit {0}
 Misses fault.NoMemory read = Unit {0}
 
+-- A function that reads files gives what is said, or memory ran out, or a read failed.
 abbrev pub Finds : {Y : Type 0} → Result Y BuildFault → Result Y BuildFault → Type 0
 Finds (Ok x) read = read ≡ Ok x
 Finds (Err e) read = Misses e read

@@ -28,8 +28,13 @@ code_of word =
 -- in authenticate. Names of modules are exact.
 abbrev pub has_files_in : Modules → Section → Bool
 has_files_in modules section.Authorize = is_some modules.users
-has_files_in modules _ = false
+has_files_in modules section.Authenticate = false
+has_files_in modules section.Session = false
+has_files_in modules section.Preacct = false
+has_files_in modules section.Accounting = false
+has_files_in modules section.PostAuth = false
 
+-- The call that a word makes in a section: that of a module which has the section.
 unfoldable pub call_of : Modules → Section → List ℕ → Option Statement
 call_of modules section word =
     if bytes_eq word (codes "files") && has_files_in modules section then Some statement.Files

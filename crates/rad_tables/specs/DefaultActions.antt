@@ -31,15 +31,19 @@ row authorize authenticate session accounting redundant = record {
 abbrev pub ret : Action
 ret = Return
 
+-- The least priority of the tables.
 abbrev pub pr1 : Action
 pr1 = Priority 1
 
+-- Priority 2.
 abbrev pub pr2 : Action
 pr2 = Priority 2
 
+-- Priority 3.
 abbrev pub pr3 : Action
 pr3 = Priority 3
 
+-- The greatest priority of the tables.
 abbrev pub pr4 : Action
 pr4 = Priority 4
 
@@ -68,13 +72,18 @@ row_of Updated =
 
 -- The column of a section, inside a group of this kind.
 abbrev pub column_of : Section → GroupKind → Row → Action
-column_of _ Redundant r = r.redundant
 column_of Authorize Plain r = r.authorize
 column_of Authenticate Plain r = r.authenticate
 column_of Session Plain r = r.session
 column_of Preacct Plain r = r.accounting
 column_of Accounting Plain r = r.accounting
 column_of PostAuth Plain r = r.authorize
+column_of Authorize Redundant r = r.redundant
+column_of Authenticate Redundant r = r.redundant
+column_of Session Redundant r = r.redundant
+column_of Preacct Redundant r = r.redundant
+column_of Accounting Redundant r = r.redundant
+column_of PostAuth Redundant r = r.redundant
 
 -- The table's cell: the default action on this code in a group of this kind in this section.
 abbrev pub default_action : Section → GroupKind → Code → Action

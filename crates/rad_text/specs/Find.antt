@@ -5,6 +5,7 @@ use Rattle.rad_text.specs.declared.read.ReadError.TheVariants.{NoMemory, Wrong}
 
 -- One reading after another, up to the first that finds nothing.
 infixl 10 ◌>>=◌
+-- One value and then the next: where nothing is found there is nothing behind it.
 abbrev pub ◌>>=◌ : {A B : Type 0} → Option A → (A → Option B) → Option B
 None >>= f = None
 (Some x) >>= f = f x

@@ -10,6 +10,7 @@ Read A F = Result (A × List ℕ) F
 
 -- One reading after another, up to the first that is wrong.
 infixl 10 ◌>>=◌
+-- One reading and then the next: the first fault ends it.
 abbrev pub ◌>>=◌ : {A B F : Type 0} → Result A F → (A → Result B F) → Result B F
 (Ok x) >>= f = f x
 (Err fault) >>= f = Err fault

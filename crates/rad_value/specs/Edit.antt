@@ -24,6 +24,7 @@ pair_of edit = record { attr = edit.attr; value = edit.value }
 abbrev pub is_equal_pair : Pair → Pair → Bool
 is_equal_pair wanted pair = is_of wanted.attr pair && is_equal pair.value wanted.value
 
+-- A pair of the wanted one's attribute with another value.
 abbrev pub is_other_pair : Pair → Pair → Bool
 is_other_pair wanted pair = is_of wanted.attr pair && not (is_equal pair.value wanted.value)
 

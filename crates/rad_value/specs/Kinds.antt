@@ -4,6 +4,7 @@ use Rattle.rad_words.specs.declared.attributes.Kind.TheVariants as kind
 use Rattle.rad_value.specs.declared.values.Value.{Value}
 use Rattle.rad_value.specs.declared.values.Value.TheVariants as value
 
+-- The kind of a value (RFC 2865 section 5).
 abbrev pub kind_of_value : Value → Kind
 kind_of_value (value.Text text) = kind.Text
 kind_of_value (value.Octets octets) = kind.Octets

@@ -5,6 +5,7 @@ use Rattle.rad_value.specs.declared.values.Pair.{Pair}
 use Rattle.rad_value.specs.declared.edits.ListName.{ListName}
 use Rattle.rad_value.specs.declared.edits.ListName.TheVariants.{Request, Reply, Control}
 
+-- The three lists of pairs of a request.
 pub record PairLists : Type 0 where
   pub request : List Pair
   pub reply : List Pair

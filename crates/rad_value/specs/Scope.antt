@@ -1,13 +1,9 @@
 -- What a policy of one request works on beside the devices. This project's own; captures, loop values and codes are after
 -- unlang(5), and the Request Authenticator is that of RFC 2865 section 3.
-use Rattle.std.specs.Prelude.{ℕ, ◌≡◌, ◌≤◌, List, None, replicate}
+use Rattle.std.specs.Prelude.{ℕ, ◌≡◌, List, None, replicate}
 use Rattle.rad_outside.specs.declared.listen.Peer.{Peer}
 use Rattle.rad_value.specs.declared.scope.Scope.{Scope}
 use Rattle.rad_value.specs.PairLists.{PairLists}
-
--- A moment in seconds since 1970 that a scope may have: up to the last that the server counts to.
-abbrev pub IsInTime : ℕ → Type 0
-IsInTime moment = moment ≤ 250000000000
 
 -- A scope as a request begins: nothing is captured, no loop runs, no code was given and no choice was made.
 pub record IsFresh (scope : Scope) : Type 0 where

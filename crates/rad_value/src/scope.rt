@@ -1,4 +1,5 @@
-ghost use Rattle.rad_value.specs.Scope.{IsFresh, IsInTime, IsOf};
+ghost use Rattle.rad_outside.specs.Moments.{IsInTime};
+ghost use Rattle.rad_value.specs.Scope.{IsFresh, IsOf};
 
 use crate::{Lists, Value};
 use rad_outside::{Octets, Peer};
@@ -18,7 +19,7 @@ pub struct Scope {
     pub choices: u32,
     /// Who sent the request.
     pub from: Peer,
-    /// Seconds since 1970, at most 250,000,000,000.
+    /// Seconds since 1970, at most `LAST_MOMENT`.
     pub moment: u64,
     /// The random word of the request.
     pub luck: u64,

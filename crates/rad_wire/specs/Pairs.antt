@@ -22,6 +22,7 @@ use Rattle.rad_wire.specs.Values.{value_of}
 abbrev pub standard : ℕ → AttrId
 standard number = record { space = Standard; number = number }
 
+-- A vendor's attribute of this number (RFC 2865 section 5.26).
 abbrev pub of_vendor : ℕ → ℕ → AttrId
 of_vendor vendor number = record { space = Vendor vendor; number = number }
 

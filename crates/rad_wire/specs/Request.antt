@@ -117,6 +117,7 @@ long_password code Standard number octets =
 long_password code (Vendor vendor) number octets = []
 long_password code Internal number octets = []
 
+-- The octets of a pair that is a password too long to be hidden, else none (RFC 2865 section 5.2).
 unfoldable pub long_password_of : ℕ → Pair → List ℕ
 long_password_of code pair = long_password code pair.attr.space pair.attr.number (octets_of pair.value)
 

@@ -7,7 +7,7 @@ ghost use Rattle.rad_packet.specs.Signatures.{digest_with};
 ghost use Rattle.rad_wire.specs.Accepts.{Accepts, IsFirstFault, is_reply_code};
 
 use crate::reply_fault::ReplyFault;
-use rad_packet::{are_attributes, digest_with, is_intact};
+use rad_packet::{LONGEST_PACKET, are_attributes, digest_with, is_intact};
 
 /// The code of an Access-Request (RFC 2865 section 4.1).
 const ACCESS_REQUEST: u8 = 1;
@@ -47,7 +47,7 @@ fn answering_packet<'a>(request: &[u8], reply: &'a [u8]) -> Result<&'a [u8], Rep
         return Err(ReplyFault::Short);
     }
     let length = usize::from(u16::from_be_bytes([reply[2], reply[3]]));
-    if length < 20 || length > 4096 || length > reply.len() {
+    if length < 20 || length > LONGEST_PACKET || length > reply.len() {
         return Err(ReplyFault::BadLength);
     }
     if !is_reply_code(request[0], reply[0]) {

@@ -8,12 +8,9 @@ use crate::proxy_state::{proxy_states_len, push_proxy_states};
 use crate::reply_pairs::push_pairs;
 use md5::{Digest, Md5};
 use rad_outside::{NoMemory, Octets};
-use rad_packet::Checked;
+use rad_packet::{Checked, LONGEST_PACKET};
 use rad_value::Lists;
 use std::alloc::Global;
-
-/// The most octets of a packet (RFC 2865 section 3).
-const LONGEST: usize = 4096;
 
 /// The octets of a reply of this code to the request: the pairs of the reply list in order, up to the first that doesn't
 /// fit beside the request's Proxy-State attributes, then those, unchanged and in order, and all of it signed with the
@@ -34,8 +31,8 @@ pub fn reply_bytes(
         (authenticator_of request.now.octets.now) (drop 20 reply) secret.now) }
     ensures limit { IfOk result (λ reply. length reply ≤ 4096) }
 {
-    let limit = LONGEST - proxy_states_len(request);
-    let mut reply = Vec::with_capacity(alloc, LONGEST)?;
+    let limit = LONGEST_PACKET - proxy_states_len(request);
+    let mut reply = Vec::with_capacity(alloc, LONGEST_PACKET)?;
     reply.extend_from_slice(&[code, request.id, 0, 0])?;
     reply.extend_from_slice(request.authenticator())?;
     push_pairs(&mut reply, limit, lists)?;

@@ -21,16 +21,13 @@ use crate::attribute_writing::value_octets;
 use crate::draft::{Asking, asked};
 use crate::request_fault::RequestFault;
 use rad_outside::{NoMemory, Octets};
-use rad_packet::{accounting_authenticator, carried, message_authenticator};
+use rad_packet::{LONGEST_PACKET, accounting_authenticator, carried, message_authenticator};
 use rad_value::{ListName, Lists};
 use rad_words::{AttrId, Space};
 use std::alloc::Global;
 
 /// The octets of a packet's header.
 const HEADER: usize = 20;
-
-/// The most octets of a packet (RFC 2865 section 3).
-const LONGEST: usize = 4096;
 
 /// The codes of Access-Request and Accounting-Request (RFC 2865 section 4.1, RFC 2866 section 4.1).
 const ACCESS_REQUEST: u8 = 1;
@@ -72,7 +69,7 @@ pub fn request_bytes(
     };
     let attributes = asked(alloc, &asking, lists, &[0; 16])?;
     let length = HEADER + attributes.len();
-    if length > LONGEST {
+    if length > LONGEST_PACKET {
         return Err(RequestFault::TooLong(carried(length)));
     }
     let unsigned = packet(alloc, &asking, authenticator, attributes.as_slice())?;

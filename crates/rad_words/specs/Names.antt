@@ -10,31 +10,37 @@ pub record Row : Type 0 where
   pub name : List ℕ
   pub number : ℕ
 
+-- A row of a table as it is seen.
 abbrev pub row_of : Bor (List ℕ) × ℕ → Row
 row_of row = record { name = row.0.now; number = row.1 }
 
+-- Whether a row has this name, without regard to ASCII case.
 abbrev pub is_named : List ℕ → Row → Bool
 is_named name row = str_eq_ignore_ascii_case row.name name
 
+-- Whether a row has this number.
 abbrev pub is_numbered : ℕ → Row → Bool
 is_numbered number row = row.number == number
 
--- The number of a name, and the name of a number, where a row has it.
+-- The number of a name, by the first row that has it.
 abbrev pub number_in : List Row → List ℕ → Option ℕ
 number_in rows name = option_map (λ (row : Row). row.number) (find (is_named name) rows)
 
+-- The name of a number, by the first row that has it.
 abbrev pub name_in : List Row → ℕ → Option (List ℕ)
 name_in rows number = option_map (λ (row : Row). row.name) (find (is_numbered number) rows)
 
--- No two rows have one name or one number.
+-- No two rows have one name, without regard to ASCII case.
 abbrev pub names_differ : List Row → Bool
 names_differ [] = true
 names_differ (row ∷ rows) = not (list_any (λ (other : Row). is_named other.name row) rows) && names_differ rows
 
+-- No two rows have one number.
 abbrev pub numbers_differ : List Row → Bool
 numbers_differ [] = true
 numbers_differ (row ∷ rows) = not (list_any (is_numbered row.number) rows) && numbers_differ rows
 
+-- No two rows have one name or one number.
 abbrev pub differ : List Row → Bool
 differ rows = names_differ rows && numbers_differ rows
 

@@ -10,7 +10,8 @@ use Rattle.radiusd.specs.declared.left.Left.TheVariants as left
 use Rattle.rad_site.specs.Site.{Site}
 use Rattle.radiusd.specs.Told.{KitTells}
 use Rattle.radiusd.specs.Leaving.{Leaves, HearsLast, StaysOpen}
-use Rattle.radiusd.proofs.Telling.{Tells-trans, Tells-same, HearsLast-join, StaysOpen-join, All-append}
+use Rattle.rad_outside.proofs.Tellings.{Tells-trans, Tells-same}
+use Rattle.radiusd.proofs.Telling.{HearsLast-join, StaysOpen-join, All-append}
 
 both_serve : (xs ys : List (Placed Site BuildFault)) → OnlyServes xs → OnlyServes ys → OnlyServes (xs ++ ys)
 both_serve xs ys first second = All-append (λ (entry : Placed Site BuildFault). IsTrue (is_service entry)) xs ys first second

@@ -27,7 +27,8 @@ use Rattle.radiusd.specs.Told.{Told, KitTells, IsAt, Hears, Sends, GrowsBy, even
 use Rattle.radiusd.specs.Statuses.{IsFull}
 use Rattle.radiusd.specs.Leaving.{Leaves, StaysOpen, IsOpen}
 use Rattle.radiusd.specs.Serving.{Serves, GoesOn, arrival_at}
-use Rattle.radiusd.proofs.Telling.{Tells-trans, Tells-same, Tells-weaker, All-append}
+use Rattle.rad_outside.proofs.Tellings.{Tells-trans, Tells-same, Tells-weaker}
+use Rattle.radiusd.proofs.Telling.{All-append}
 use Rattle.radiusd.proofs.Tolds.{Told-same, Told-trans}
 use Rattle.radiusd.proofs.Leavings.{Leaves-join}
 

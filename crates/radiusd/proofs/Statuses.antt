@@ -16,7 +16,7 @@ use Rattle.radiusd.specs.Words.{folder_in}
 use Rattle.radiusd.specs.Printing.{Prints}
 use Rattle.radiusd.specs.Course.{IsCourse, Unbuilt, Serving, fault_line, HasDeafWire}
 use Rattle.radiusd.specs.Statuses.{number_of, status_of, IsServing, IsSiteFault, IsRefused, FaultGives, SiteGives, NothingFailed, IsListed, IsFull}
-use Rattle.radiusd.proofs.Telling.{Tells-same, Tells-weaker}
+use Rattle.rad_outside.proofs.Tellings.{Tells-same, Tells-weaker}
 use Rattle.radiusd.proofs.Printings.{Prints-weaker}
 
 -- the status of a fault of the configuration is that of a site's own fault alone

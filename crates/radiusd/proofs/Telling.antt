@@ -1,11 +1,10 @@
--- What devices tell over several calls.
+-- What wires tell over several calls.
 use Rattle.std.proofs.Common.{◌≡◌, ◌++◌, List, [], ◌∷◌, map, Option, Some, None, refl, ap, sym, ◌∙◌, append_assoc}
 use Rattle.std.specs.List.{AllByRecursion}
 use Rattle.std.specs.Option.{option_map}
 use Rattle.std.proofs.lemmas.List.{map-append}
 use Rattle.rad_outside.specs.declared.wire.Heard.{Heard}
 use Rattle.rad_outside.specs.declared.wire.Heard.TheVariants as heard
-use Rattle.rad_outside.specs.Telling.{Tells}
 use Rattle.rad_outside.specs.Wire.{WireTold}
 use Rattle.rad_core.specs.Worker.{Answer, Placed, asked}
 use Rattle.rad_core.proofs.Histories.{asked-append}
@@ -13,22 +12,6 @@ use Rattle.rad_site.specs.declared.fault.BuildFault.{BuildFault}
 use Rattle.rad_site.specs.Site.{Site}
 use Rattle.radiusd.specs.Told.{datagram_of, events, taken, answer_of, Hears, Sends, GrowsBy, Datagram}
 use Rattle.radiusd.specs.Leaving.{HearsLast, StaysOpen, IsOpen}
-
--- from one call to the next
-pub Tells-trans : {T : Type 0} {R S : T → T → Type 0} (Q : T → T → Type 0) (a b c : Option T) → ((x y z : T) → R x y → S y z → Q x z) → Tells a b R → Tells b c S → Tells a c Q
-Tells-trans Q a b None join first second = tt
-Tells-trans Q a None (Some z) join first second = absurd second
-Tells-trans Q None (Some y) (Some z) join first second = absurd first
-Tells-trans Q (Some x) (Some y) (Some z) join first second = join x y z first second
-
-pub Tells-same : {T : Type 0} (R : T → T → Type 0) (a : Option T) → ((x : T) → R x x) → Tells a a R
-Tells-same R None holds = tt
-Tells-same R (Some x) holds = holds x
-
-pub Tells-weaker : {T : Type 0} {R : T → T → Type 0} (S : T → T → Type 0) (a b : Option T) → ((x y : T) → R x y → S x y) → Tells a b R → Tells a b S
-Tells-weaker S a None weaker tells = tt
-Tells-weaker S None (Some y) weaker tells = absurd tells
-Tells-weaker S (Some x) (Some y) weaker tells = weaker x y tells
 
 pub events-append : (xs ys : List Heard) → events (xs ++ ys) ≡ events xs ++ events ys
 events-append [] ys = refl

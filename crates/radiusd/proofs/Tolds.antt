@@ -12,7 +12,8 @@ use Rattle.rad_site.specs.declared.fault.BuildFault.{BuildFault}
 use Rattle.rad_site.specs.Site.{Site}
 use Rattle.rad_site.specs.Meaning.{site_meaning}
 use Rattle.radiusd.specs.Told.{Told, KitTells, IsAt, Hears, Sends, GrowsBy}
-use Rattle.radiusd.proofs.Telling.{Tells-trans, Tells-same, Hears-join, Sends-join, GrowsBy-join, All-append}
+use Rattle.rad_outside.proofs.Tellings.{Tells-trans, Tells-same}
+use Rattle.radiusd.proofs.Telling.{Hears-join, Sends-join, GrowsBy-join, All-append}
 
 module _ {W S K U G : Type 0} (tells : KitTells W K U) (worker : ℕ) (listen : Listen) where
   -- nothing was done

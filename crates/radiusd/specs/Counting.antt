@@ -27,6 +27,7 @@ sends (Sent octets) = true
 sends Withheld = false
 sends OutOfMemory = false
 
+-- Whether an entry stands for a reply that was handed to a wire.
 abbrev pub is_reply : Entry Site BuildFault → Bool
 is_reply (Start arrival answer) = false
 is_reply (Finish worker place ending) = sends ending
@@ -48,6 +49,7 @@ leaves_present (installed.Generation number) = false
 leaves_present (installed.Refused fault) = true
 leaves_present (installed.ListenerGone name) = true
 
+-- Whether an entry is a load that was refused.
 abbrev pub is_refusal : Entry Site BuildFault → Bool
 is_refusal (Start arrival answer) = false
 is_refusal (Finish worker place ending) = false

@@ -78,6 +78,7 @@ pub record Call : Type 0 where
   pub listen : Listen
   pub control : Option Listen
 
+-- The call of the crew that a kit was handed out by.
 abbrev pub call_of : {W S K U G : Type 0} → Handed W S K U G → Call
 call_of handed = record { worker = handed.worker; listen = handed.listen; control = handed.control }
 

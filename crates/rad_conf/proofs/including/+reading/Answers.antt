@@ -7,7 +7,7 @@ use Rattle.rad_conf.specs.declared.growth.Growth.{Growth}
 use Rattle.rad_conf.specs.Answers.{IsFault}
 use Rattle.rad_conf.specs.Growth.{taken, text_read}
 use Rattle.rad_conf.specs.Includes.{paths_of, found_at, found_read, include_read}
-use Rattle.rad_conf.proofs.Tellings.{Tells-same, Tells-weaker, Tells-trans}
+use Rattle.rad_outside.proofs.Tellings.{Tells-same, Tells-weaker, Tells-trans}
 use Rattle.rad_conf.proofs.IncludedFiles.{too_deep, include_missing, include_begins, path_fails, path_goes, paths_done, same_value}
 use Rattle.rad_conf.proofs.Going.{goes_on, goes_wrong, goes_out, is_done, starts, too_long, end_fails, end_goes}
 use Rattle.rad_conf.proofs.including.+reading.Goals as goal

@@ -1,7 +1,7 @@
 use Rattle.std.proofs.Common.{◌∙◌}
 use Rattle.std.proofs.lemmas.Result.{err_from_is_err_and}
 use Rattle.rad_outside.specs.Files.{FilesTold}
-use Rattle.rad_conf.proofs.Tellings.{Tells-weaker}
+use Rattle.rad_outside.proofs.Tellings.{Tells-weaker}
 use Rattle.rad_conf.proofs.Confs.{conf_fails, conf_goes}
 use Rattle.rad_conf.proofs.including.conf_of.Goals as goal
 

@@ -1,7 +1,7 @@
 use Rattle.std.proofs.Common.{List, ℕ, Option, Some, Ok, refl, sym, ap, ◌∙◌}
 use Rattle.rad_outside.specs.Files.{FilesTold}
 use Rattle.rad_conf.specs.Includes.{named_in}
-use Rattle.rad_conf.proofs.Tellings.{Tells-same, Tells-weaker}
+use Rattle.rad_outside.proofs.Tellings.{Tells-same, Tells-weaker}
 use Rattle.rad_conf.proofs.Sources.{folder_good, folder_bad}
 use Rattle.rad_conf.proofs.source.folder_paths.Goals as goal
 

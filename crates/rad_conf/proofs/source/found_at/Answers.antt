@@ -1,6 +1,6 @@
 use Rattle.std.proofs.Common.{List, ℕ, Option, Ok, refl, ap, ◌∙◌}
 use Rattle.rad_outside.specs.Files.{FilesTold}
-use Rattle.rad_conf.proofs.Tellings.{Tells-same, Tells-weaker}
+use Rattle.rad_outside.proofs.Tellings.{Tells-same, Tells-weaker}
 use Rattle.rad_conf.proofs.Sources.{found_good, found_bad}
 use Rattle.rad_conf.proofs.source.found_at.Goals as goal
 

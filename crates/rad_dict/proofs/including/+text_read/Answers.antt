@@ -8,7 +8,7 @@ use Rattle.rad_dict.specs.declared.step.Step.{Step}
 use Rattle.rad_dict.specs.Answers.{IsFault, IsAnswer}
 use Rattle.rad_dict.specs.Includes.{include_read, lines_read, source_at}
 use Rattle.rad_text.specs.Lines.{lines_of}
-use Rattle.rad_dict.proofs.Tellings.{Tells-same, Tells-weaker, Tells-trans}
+use Rattle.rad_outside.proofs.Tellings.{Tells-same, Tells-weaker, Tells-trans}
 use Rattle.rad_dict.proofs.Readings.{whole, Going, Ends, counted_fails, counted_goes, line_fails, line_goes, include_fails, include_missed, told_then, no_lines}
 use Rattle.rad_dict.proofs.including.+text_read.Goals as goal
 use Rattle.rad_dict.proofs.including.+text_read.Goals.{in-Goes, in-Includes+in_ok-text-in-Includes+in_ok-reading-in-Includes}

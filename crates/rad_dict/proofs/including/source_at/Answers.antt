@@ -1,6 +1,6 @@
 use Rattle.std.proofs.Common.{◌≢◌, List, ℕ, Some, refl, sym, ap, ◌∙◌, arith}
 use Rattle.rad_outside.specs.Files.{FilesTold, octets_at}
-use Rattle.rad_dict.proofs.Tellings.{Tells-same, Tells-weaker}
+use Rattle.rad_outside.proofs.Tellings.{Tells-same, Tells-weaker}
 use Rattle.rad_dict.proofs.Readings.{no_source, some_source}
 use Rattle.rad_dict.proofs.including.source_at.Goals as goal
 

@@ -1,6 +1,6 @@
 use Rattle.std.proofs.Common.{◌≡◌, length}
 use Rattle.rad_words.specs.Attribute.{same_attr}
-use Rattle.rad_dict.specs.Search.{found_at}
+use Rattle.rad_index.specs.Search.{found_at}
 use Rattle.rad_dict.proofs.search.attr_at.Given as goal
 
 abbrev pub invariant-loop-place : goal.invariant-loop-place

@@ -1,6 +1,6 @@
 use Rattle.std.proofs.Common.{◌≡◌, length}
 use Rattle.std.specs.Str.{str_eq_ignore_ascii_case}
-use Rattle.rad_dict.specs.Search.{found_at}
+use Rattle.rad_index.specs.Search.{found_at}
 use Rattle.rad_dict.proofs.search.attr_named_at.Given as goal
 
 abbrev pub invariant-loop-place : goal.invariant-loop-place

@@ -1,6 +1,6 @@
 use Rattle.std.proofs.Common.{◌≡◌, length}
 use Rattle.rad_dict.specs.Definitions.{is_number_of}
-use Rattle.rad_dict.specs.Search.{found_at}
+use Rattle.rad_index.specs.Search.{found_at}
 use Rattle.rad_dict.proofs.search.value_numbered_at.Given as goal
 
 abbrev pub invariant-loop-place : goal.invariant-loop-place

@@ -9,7 +9,7 @@ use Rattle.radiusd.specs.Told.{KitTells}
 use Rattle.radiusd.specs.History.{state_after}
 use Rattle.radiusd.specs.Leaving.{HearsLast}
 use Rattle.radiusd.specs.Serving.{Serves, GoesOn}
-use Rattle.radiusd.proofs.Telling.{Tells-weaker}
+use Rattle.rad_outside.proofs.Tellings.{Tells-weaker}
 use Rattle.radiusd.proofs.Leavings.{unasked}
 use Rattle.radiusd.proofs.Passes.{open_after, goes_on_idly, goes_on_still, goes_on_served, goes_on_look, goes_on_stop}
 use Rattle.radiusd.proofs.serving.pass.Goals as goal

@@ -15,7 +15,7 @@ use Rattle.radiusd.specs.Course.{Serving, IsExcused, Call, closing_lines, status
 use Rattle.radiusd.specs.Lines.{listening_line, counts_line}
 use Rattle.radiusd.specs.Printing.{Prints, PrintsWhole, IsCutShort}
 use Rattle.radiusd.specs.Headline.{Headline}
-use Rattle.radiusd.proofs.Telling.{Tells-same}
+use Rattle.rad_outside.proofs.Tellings.{Tells-same}
 use Rattle.radiusd.proofs.Leavings.{unasked}
 use Rattle.radiusd.proofs.Passes.{goes_on_still}
 use Rattle.radiusd.proofs.Printings.{Prints-nothing, Prints-weaker, Prints-behind, finished, unserved, uninstalled, cut_unfinished, cut_followed, excused_since}

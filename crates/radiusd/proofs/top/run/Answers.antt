@@ -7,7 +7,7 @@ use Rattle.radiusd.specs.Course.{Course, Misworded, Unbuilt, Serving, IsExcused,
 use Rattle.radiusd.specs.Lines.{usage_line}
 use Rattle.radiusd.specs.Headline.{Headline}
 use Rattle.radiusd.specs.Statuses.{number_of, NothingFailed}
-use Rattle.radiusd.proofs.Telling.{Tells-same}
+use Rattle.rad_outside.proofs.Tellings.{Tells-same}
 use Rattle.radiusd.proofs.Printings.{Prints-weaker}
 use Rattle.radiusd.proofs.Headlines.{headline_idle}
 use Rattle.radiusd.proofs.Statuses.{FaultGives-by_fault, IsRefused-by_fault, unbuilt_course, serving_course, SiteGives-by_fault}

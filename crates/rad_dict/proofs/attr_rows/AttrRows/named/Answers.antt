@@ -1,11 +1,12 @@
 use Rattle.std.proofs.Common.{◌≡◌, Bool, List, refl, ap, ◌∙◌}
 use Rattle.std.specs.List.{find}
 use Rattle.rad_dict.specs.declared.definitions.AttrDef.{AttrDef}
-use Rattle.rad_dict.specs.Places.{places_of}
-use Rattle.rad_dict.specs.Search.{found_at}
+use Rattle.rad_index.specs.Places.{places_of}
+use Rattle.rad_index.specs.Search.{found_at}
 use Rattle.std.specs.Str.{str_eq_ignore_ascii_case}
 use Rattle.rad_dict.specs.Keys.{by_name, name_key}
-use Rattle.rad_dict.proofs.Indexed.{looked_up, by_name_only}
+use Rattle.rad_index.proofs.Searches.{looked_up}
+use Rattle.rad_dict.proofs.Indexed.{by_name_only}
 use Rattle.rad_dict.proofs.attr_rows.AttrRows.named.Goals as goal
 
 pub returns : goal.returns

@@ -2,7 +2,7 @@ use Rattle.std.proofs.Common.{Err, sym, ap, ◌∙◌}
 use Rattle.rad_outside.specs.declared.files.Place.{Place}
 use Rattle.rad_outside.specs.Files.{FilesTold}
 use Rattle.rad_dict.specs.declared.fault.DictFault.TheVariants as fault
-use Rattle.rad_dict.proofs.Tellings.{Tells-weaker}
+use Rattle.rad_outside.proofs.Tellings.{Tells-weaker}
 use Rattle.rad_dict.proofs.Readings.{dict_missing, told_dict}
 use Rattle.rad_dict.proofs.dictionary.Dict.read.Goals as goal
 

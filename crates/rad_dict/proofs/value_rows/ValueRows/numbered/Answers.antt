@@ -1,11 +1,12 @@
 use Rattle.std.proofs.Common.{◌≡◌, Bool, List, refl, ap, ◌∙◌}
 use Rattle.std.specs.List.{find}
 use Rattle.rad_dict.specs.declared.definitions.ValueDef.{ValueDef}
-use Rattle.rad_dict.specs.Places.{places_of}
-use Rattle.rad_dict.specs.Search.{found_at}
+use Rattle.rad_index.specs.Places.{places_of}
+use Rattle.rad_index.specs.Search.{found_at}
 use Rattle.rad_dict.specs.Definitions.{is_number_of}
 use Rattle.rad_dict.specs.Keys.{by_value, key_with, attr_key}
-use Rattle.rad_dict.proofs.Indexed.{looked_up, by_value_only}
+use Rattle.rad_index.proofs.Searches.{looked_up}
+use Rattle.rad_dict.proofs.Indexed.{by_value_only}
 use Rattle.rad_dict.proofs.value_rows.ValueRows.numbered.Goals as goal
 
 pub returns : goal.returns

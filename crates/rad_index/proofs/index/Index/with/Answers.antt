@@ -1,8 +1,8 @@
 use Rattle.std.proofs.Common.{◌≡◌, ℕ, List, [], ◌∷◌, ◌++◌, length, eqb, false, unwrap_or, option_map, nat_cmp, ap, ◌∙◌, arith}
 use Rattle.std.proofs.lemmas.Grind.{common_steps}
 use Rattle.std.specs.BTreeMap.{get}
-use Rattle.rad_dict.proofs.PlacesLemmas.{places_with}
-use Rattle.rad_dict.proofs.index.Index.with.Goals as goal
+use Rattle.rad_index.proofs.PlacesLemmas.{places_with}
+use Rattle.rad_index.proofs.index.Index.with.Goals as goal
 
 pub invariant_of-result : goal.invariant_of-result
 invariant_of-result c =

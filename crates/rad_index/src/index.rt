@@ -1,10 +1,10 @@
-//! Where a key stands in a list of keys.
+//! The places of keys in a list of keys.
 
 ghost use Rattle.std.specs.Prelude.{◌≡◌, ℕ, eqb, false, [], ◌∷◌, ◌++◌, IfOk, unwrap_or};
 ghost use Rattle.std.specs.Option.{option_map};
 ghost use Rattle.std.specs.Ordering.{nat_cmp};
 ghost use Rattle.std.specs.BTreeMap.{get};
-ghost use Rattle.rad_dict.specs.Places.{places_of};
+ghost use Rattle.rad_index.specs.Places.{places_of};
 
 use rad_outside::NoMemory;
 use std::alloc::Global;
@@ -23,7 +23,7 @@ impl Model for Index {
     ghost use Rattle.std.specs.Option.{option_map};
     ghost use Rattle.std.specs.Ordering.{nat_cmp};
     ghost use Rattle.std.specs.BTreeMap.{get};
-    ghost use Rattle.rad_dict.specs.Places.{places_of};
+    ghost use Rattle.rad_index.specs.Places.{places_of};
 
     ghost Value = { List ℕ };
 

@@ -2,7 +2,7 @@
 use Rattle.std.proofs.Common.{◌≡◌, ℕ, suc, ◌+◌, Bool, true, false, cond, eqb, List, [], ◌∷◌, ◌++◌, length, refl, sym, ap, subst, ◌∙◌, eq-eqb, arith}
 use Rattle.std.proofs.lemmas.Bool.{eqb-true}
 use Rattle.std.proofs.lemmas.List.{append-nil}
-use Rattle.rad_dict.specs.Places.{places_from, places_of}
+use Rattle.rad_index.specs.Places.{places_from, places_of}
 
 -- the place at the end, where the key stands there
 abbrev last_place : ℕ → ℕ → ℕ → List ℕ
