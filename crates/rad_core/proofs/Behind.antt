@@ -12,8 +12,8 @@ use Rattle.rad_core.specs.declared.started.StartAnswer.{StartAnswer}
 use Rattle.rad_core.specs.declared.started.StartAnswer.TheVariants.{Dropped, Fresh, NoRoom}
 use Rattle.rad_core.specs.State.{ServerState, opening, at_moment, with_request}
 use Rattle.rad_core.specs.Entry.{Entry, Start, Finish, Install, Look, Stop, worker_of}
-use Rattle.rad_core.specs.Step.{May, after, after_start, after_install, run, IsLegal, Step}
-use Rattle.rad_core.specs.Core.{state_of, origin_of}
+use Rattle.rad_core.specs.Step.{May, after, after_start, after_install, run, Step}
+use Rattle.rad_core.specs.Core.{state_of}
 use Rattle.rad_core.specs.Behind.{StandsFor, TurnAdds, IsWorn}
 use Rattle.rad_core.proofs.Histories.{run-append, IsLegal-append}
 

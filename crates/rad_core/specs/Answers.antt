@@ -1,23 +1,19 @@
 -- How the core's Rust values are seen in the history. This project's own.
-use Rattle.std.specs.Prelude.{ℕ, ◌≡◌, List, Bool, Some, Result, Ok, Err, length}
+use Rattle.std.specs.Prelude.{ℕ, ◌≡◌, Some, Result, Ok, Err}
 use Rattle.std.specs.Arc.{arc_value}
 use Rattle.std.specs.declared.sync.Arc.{Arc}
 use Rattle.std.specs.declared.alloc.Global.{Global}
 use Rattle.rad_outside.specs.Moments.{IsInTime}
-use Rattle.rad_policy.specs.declared.arrival.Arrival.{Arrival}
 use Rattle.rad_policy.specs.declared.arrival.Arrived.{Arrived}
-use Rattle.rad_policy.specs.declared.outcome.Outcome.{Outcome}
-use Rattle.rad_policy.specs.declared.outcome.Outcome.TheVariants as outcome
 use Rattle.rad_core.specs.declared.started.Started.{Started}
 use Rattle.rad_core.specs.declared.started.Ticket.{Ticket}
 use Rattle.rad_core.specs.declared.started.Started.TheVariants as started
 use Rattle.rad_policy.specs.Policy.{Meaning}
 use Rattle.rad_core.specs.State.{ServerState, with_request}
 use Rattle.rad_policy.specs.declared.ending.Ending.{Ending}
-use Rattle.rad_policy.specs.declared.ending.Ending.TheVariants.{Sent, Withheld, OutOfMemory}
 use Rattle.rad_core.specs.declared.started.StartAnswer.{StartAnswer}
 use Rattle.rad_core.specs.declared.started.StartAnswer.TheVariants.{Dropped, Fresh, NoRoom}
-use Rattle.rad_core.specs.Step.{Gives, MayFinish}
+use Rattle.rad_core.specs.Step.{MayFinish}
 
 -- A start's answer: of a ticket, its place.
 abbrev pub answer_seen : {P : Type 0} → Started P → StartAnswer

@@ -11,7 +11,6 @@ use Rattle.rad_core.specs.declared.installed.Installed.TheVariants as installed
 use Rattle.rad_policy.specs.Policy.{Meaning, IsAuthenticUnder, GivesEnding}
 use Rattle.rad_core.specs.State.{ServerState, InProgress, at_moment, counted, with_request, without_request, after_stop, seen_of}
 use Rattle.rad_policy.specs.declared.ending.Ending.{Ending}
-use Rattle.rad_policy.specs.declared.ending.Ending.TheVariants.{Sent, Withheld, OutOfMemory}
 use Rattle.rad_core.specs.declared.started.StartAnswer.{StartAnswer}
 use Rattle.rad_core.specs.declared.started.StartAnswer.TheVariants.{Dropped, Fresh, NoRoom}
 use Rattle.rad_core.specs.Entry.{Entry, Start, Finish, Install, Look, Stop}

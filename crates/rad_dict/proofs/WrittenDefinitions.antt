@@ -1,5 +1,5 @@
 -- Definitions that are written, statement by statement.
-use Rattle.std.proofs.Common.{◌≡◌, ℕ, ◌+◌, ◌<◌, List, [], ◌∷◌, ◌++◌, map, Option, Some, None, Result, Ok, Err, refl, sym, ap, append_assoc, ◌∙◌}
+use Rattle.std.proofs.Common.{◌≡◌, ℕ, ◌+◌, List, [], ◌∷◌, ◌++◌, map, Option, Some, None, Result, Ok, Err, refl, sym, ap, append_assoc, ◌∙◌}
 use Rattle.std.specs.List.{flat_map}
 use Rattle.std.proofs.lemmas.Bool.{cond-true, lt-ltb}
 use Rattle.std.proofs.lemmas.List.{append-nil}
@@ -11,19 +11,18 @@ use Rattle.rad_dict.specs.declared.change.Change.{Change}
 use Rattle.rad_dict.specs.declared.change.Change.TheVariants as change
 use Rattle.rad_dict.specs.declared.definitions.AttrDef.{AttrDef}
 use Rattle.rad_dict.specs.declared.definitions.ValueDef.{ValueDef}
-use Rattle.rad_dict.specs.declared.fault.DictFault.{DictFault}
 use Rattle.rad_dict.specs.declared.fault.Wrong.{Wrong}
 use Rattle.rad_dict.specs.declared.reading.Reading.{Reading}
 use Rattle.rad_dict.specs.declared.vendors.Vendor.{Vendor}
 use Rattle.rad_dict.specs.Definitions.{Definitions, attr_named, number_of}
 use Rattle.rad_dict.specs.Base.{base_definitions}
-use Rattle.rad_dict.specs.Lines.{Statement, attribute, value, vendor, begins, ends}
-use Rattle.rad_dict.specs.Readings.{vendor_named, id_of, changed, attr_change, attr_of_id, values_below, value_change, value_below, value_of_attr, vendor_change, begin_change, end_change, change_of, after}
+use Rattle.rad_dict.specs.Lines.{Statement, attribute, begins, ends}
+use Rattle.rad_dict.specs.Readings.{vendor_named, id_of, changed, attr_change, attr_of_id, value_change, value_below, value_of_attr, vendor_change, begin_change, change_of, after}
 use Rattle.rad_dict.specs.Steps.{fault_of}
 use Rattle.rad_dict.specs.FirstReading.{reading_of}
 use Rattle.rad_dict.specs.Includes.{ended, dict_read}
 use Rattle.rad_dict.specs.Written.{statements_read}
-use Rattle.rad_dict.specs.WrittenDefinitions.{WrittenAttr, WrittenValue, Writing, attr_statements, vendor_statement, value_statement, statements_of, defined_by, with_attr, with_value, AreNewVendors, IsVendorOf, IsNewAttr, AreNewAttrs, IsNewValue, AreNewValues, with_attrs, IsNew}
+use Rattle.rad_dict.specs.WrittenDefinitions.{WrittenAttr, WrittenValue, Writing, attr_statements, vendor_statement, value_statement, statements_of, defined_by, with_attr, with_value, AreNewVendors, IsVendorOf, AreNewAttrs, IsNewValue, AreNewValues, with_attrs, IsNew}
 use Rattle.rad_dict.proofs.Lookups.{same_itself}
 
 -- What is known, by its parts.

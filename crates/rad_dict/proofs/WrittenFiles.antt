@@ -1,8 +1,7 @@
 -- Files of statements that are written, line by line.
-use Rattle.std.proofs.Common.{◌≡◌, ℕ, ◌+◌, ◌<◌, ◌≤◌, Bool, true, false, List, [], ◌∷◌, ◌++◌, length, map, Some, Result, Ok, Err, refl, sym, ap, append_assoc, ◌∙◌, arith}
-use Rattle.std.specs.Prelude.{codes}
+use Rattle.std.proofs.Common.{◌≡◌, ℕ, ◌+◌, ◌≤◌, Bool, true, false, List, [], ◌∷◌, ◌++◌, length, map, Some, Result, Ok, Err, refl, ap, append_assoc, ◌∙◌, arith}
 use Rattle.std.specs.Fmt.{decimal}
-use Rattle.std.proofs.lemmas.Bool.{cond-false, le-ltb}
+use Rattle.std.proofs.lemmas.Bool.{le-ltb}
 use Rattle.std.proofs.lemmas.List.Concat.{flat_map-cons}
 use Rattle.rad_words.specs.declared.attributes.Kind.{Kind}
 use Rattle.rad_words.specs.declared.attributes.Kind.TheVariants.{Text, Octets, Addr, Number, Date, Byte, Short}
@@ -15,7 +14,7 @@ use Rattle.rad_dict.specs.declared.fault.DictFault.{DictFault}
 use Rattle.rad_dict.specs.declared.fault.Wrong.{Wrong}
 use Rattle.rad_dict.specs.declared.reading.Reading.{Reading}
 use Rattle.rad_dict.specs.declared.step.Step.{Step}
-use Rattle.rad_dict.specs.Lines.{Statement, nothing, attribute, value, vendor, begins, ends, states}
+use Rattle.rad_dict.specs.Lines.{Statement, nothing, attribute, value, vendor, begins, ends}
 use Rattle.rad_dict.specs.Readings.{after}
 use Rattle.rad_dict.specs.Steps.{fault_of, stepped, step_by, step_of}
 use Rattle.rad_dict.specs.FirstReading.{reading_of, first_reading}

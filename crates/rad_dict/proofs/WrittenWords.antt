@@ -1,5 +1,5 @@
 -- The lines of statements that are written, word by word.
-use Rattle.std.proofs.Common.{◌≡◌, ℕ, suc, ◌<◌, ◌^◌, Bool, true, false, not, ◌&&◌, eqb, List, [], ◌∷◌, ◌++◌, length, take, drop, Option, Some, None, refl, sym, ap, ◌∙◌, arith}
+use Rattle.std.proofs.Common.{◌≡◌, ℕ, suc, ◌<◌, ◌^◌, true, false, not, ◌&&◌, eqb, List, [], ◌∷◌, ◌++◌, length, take, Some, None, refl, sym, ap, ◌∙◌, arith}
 use Rattle.std.specs.Prelude.{codes}
 use Rattle.std.specs.Str.{str_eq_ignore_ascii_case, all_ascii_digits}
 use Rattle.std.specs.Fmt.{decimal}
@@ -8,11 +8,11 @@ use Rattle.std.proofs.lemmas.List.{take_at, drop_at, append-nil}
 use Rattle.rad_words.specs.declared.attributes.Kind.{Kind}
 use Rattle.rad_words.specs.declared.attributes.Kind.TheVariants.{Text, Octets, Addr, Number, Date, Byte, Short}
 use Rattle.rad_text.specs.Blanks.{is_blank, after_blanks}
-use Rattle.rad_text.specs.Numerals.{is_hexadecimal, numeral_of}
+use Rattle.rad_text.specs.Numerals.{is_hexadecimal}
 use Rattle.rad_text.proofs.NumeralLaws.{numeral_again}
 use Rattle.rad_dict.specs.NameForms.{is_name_octet, is_name, is_attr_name, is_value_name}
 use Rattle.rad_dict.specs.LineWords.{ends_word, word_len, word_behind_blanks, word_at, is_ended, last_at}
-use Rattle.rad_dict.specs.Lines.{Statement, nothing, attribute, value, vendor, begins, ends, states, stating, kind_of, kind_with, attribute_at, value_at, vendor_at, only_word, keyword_line, line_at}
+use Rattle.rad_dict.specs.Lines.{Statement, nothing, attribute, value, vendor, begins, ends, states, stating, kind_of, attribute_at, value_at, vendor_at, only_word, keyword_line, line_at}
 use Rattle.rad_dict.specs.Written.{kind_text, line_text, IsWritable}
 use Rattle.rad_dict.proofs.NameWords.{are_name_octets, IsName, name_is, is_not, decimal_name}
 

@@ -7,7 +7,6 @@ use Rattle.rad_words.specs.declared.attributes.Kind.{Kind}
 use Rattle.rad_words.specs.declared.attributes.Kind.TheVariants.{Text, Octets, Addr, Number, Date, Byte, Short}
 use Rattle.rad_text.specs.Paths.{place_at}
 use Rattle.rad_dict.specs.declared.fault.DictFault.{DictFault}
-use Rattle.rad_dict.specs.declared.fault.Wrong.{Wrong}
 use Rattle.rad_dict.specs.declared.reading.Reading.{Reading}
 use Rattle.rad_dict.specs.NameForms.{is_name, is_attr_name, is_value_name}
 use Rattle.rad_dict.specs.Lines.{Statement, nothing, attribute, value, vendor, begins, ends}

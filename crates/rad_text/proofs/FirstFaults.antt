@@ -1,5 +1,5 @@
 -- The first fault of readings that follow one another.
-use Rattle.std.proofs.Common.{◌≡◌, Bool, true, false, Result, Ok, Err, refl}
+use Rattle.std.proofs.Common.{◌≡◌, Bool, true, false, Result, Ok, refl}
 use Rattle.rad_text.specs.Read.{◌>>=◌}
 use Rattle.rad_text.specs.Answers.{IsFaultIf, IsFault}
 
