@@ -14,7 +14,8 @@ use Rattle.rad_dict.specs.BaseAttributes.{standard_attrs, internal_attrs, base_a
 use Rattle.rad_dict.specs.BaseValues.{base_values}
 use Rattle.rad_dict.specs.NameForms.{is_name, is_attr_name, is_value_name}
 use Rattle.rad_dict.specs.EveryDictionary.{IsDictionary}
-use Rattle.rad_dict.proofs.Lookups.{find_finds, same_turned, same_attr_itself, same_attr_is}
+use Rattle.rad_index.proofs.Finds.{find_finds}
+use Rattle.rad_dict.proofs.Lookups.{same_turned, same_attr_itself, same_attr_is}
 
 -- Each row fits.
 all_fit : {T : Type 0} (p : T → Bool) (xs : List T) → find (λ x. not (p x)) xs ≡ None → (x : T) → Contains xs x → p x ≡ true

@@ -15,7 +15,8 @@ use Rattle.rad_dict.specs.NameForms.{is_attr_name, is_value_name}
 use Rattle.rad_dict.specs.BaseAttributes.{base_attrs}
 use Rattle.rad_dict.specs.BaseValues.{base_values}
 use Rattle.rad_dict.specs.EveryDictionary.{BeginsWith, IsSameName, IsDictionary}
-use Rattle.rad_dict.proofs.Lookups.{find_finds, same_turned, same_attr_itself}
+use Rattle.rad_index.proofs.Finds.{find_finds}
+use Rattle.rad_dict.proofs.Lookups.{same_turned, same_attr_itself}
 
 begins_longer : {T : Type 0} (first whole more : List T) → BeginsWith first whole → BeginsWith first (whole ++ more)
 begins_longer [] whole more e = refl
