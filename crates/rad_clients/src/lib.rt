@@ -6,5 +6,7 @@
 
 mod clients;
 mod network;
+mod written;
 
 pub use clients::Clients;
+pub use written::{Network, network_of};

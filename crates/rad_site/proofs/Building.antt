@@ -26,6 +26,7 @@ is_built sources (Err (fault.Conf wrong)) finds = inl finds
 is_built sources (Err (fault.Dict wrong)) finds = inl finds
 is_built sources (Err (fault.Users file wrong)) finds = inl finds
 is_built sources (Err (fault.Tree wrong)) finds = inl finds
+is_built sources (Err (fault.BadSetting place name)) finds = inl finds
 is_built sources (Err fault.ReadFault) finds = inr (inr refl)
 is_built sources (Err fault.NoMemory) finds = inr (inl refl)
 
@@ -87,6 +88,7 @@ dict_misses sources nodes (fault.Conf wrong) read same = rw (read, same) refl
 dict_misses sources nodes (fault.Dict wrong) read same = rw (read, same) refl
 dict_misses sources nodes (fault.Users file wrong) read same = rw (read, same) refl
 dict_misses sources nodes (fault.Tree wrong) read same = rw (read, same) refl
+dict_misses sources nodes (fault.BadSetting place name) read same = rw (read, same) refl
 dict_misses sources nodes fault.ReadFault read same = tt
 dict_misses sources nodes fault.NoMemory read same = tt
 

@@ -18,6 +18,7 @@ Fails (fault.Conf wrong) read = read ≡ Err (fault.Conf wrong)
 Fails (fault.Dict wrong) read = read ≡ Err (fault.Dict wrong)
 Fails (fault.Users file wrong) read = read ≡ Err (fault.Users file wrong)
 Fails (fault.Tree wrong) read = read ≡ Err (fault.Tree wrong)
+Fails (fault.BadSetting place name) read = read ≡ Err (fault.BadSetting place name)
 Fails fault.ReadFault read = ⊥
 Fails fault.NoMemory read = Unit {0}
 
