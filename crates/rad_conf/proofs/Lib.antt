@@ -10,3 +10,7 @@ pub mod Seen
 pub mod Quoted
 pub mod PlacesLemmas
 pub mod FoundPairs
+pub mod Spellings
+pub mod BareWords
+pub mod SpelledTexts
+pub mod SpelledWords

@@ -11,3 +11,6 @@ pub mod Growth
 pub mod Includes
 pub mod Conf
 pub mod Grammar
+pub mod Spelling
+pub mod Inside
+pub mod Written

@@ -1,6 +1,7 @@
 //! The laws of the grammar: how what is read is written, apart from how it is read.
 
 ghost use Rattle.rad_conf.specs.Grammar.{ReadsSingle, ReadsDouble};
+ghost use Rattle.rad_conf.specs.Spelling.{ReadsWords, SpellsWords};
 
 /// What is written between quotes is read back, whatever has been read before. It does nothing when it runs.
 pub fn quoted_words_are_read_back()
@@ -8,4 +9,13 @@ pub fn quoted_words_are_read_back()
     ensures single { ReadsSingle }
     // Each text without a `$`, between double quotes.
     ensures double { ReadsDouble }
+{}
+
+/// A word is read exactly where it is spelled: bare, in single quotes or in double quotes, with its escapes
+/// and variables, whatever has been read before and whatever follows it. It does nothing when it runs.
+pub fn words_are_read_as_they_are_spelled()
+    // What is spelled so is read.
+    ensures read { ReadsWords }
+    // What is read is spelled so.
+    ensures spelled { SpellsWords }
 {}
