@@ -14,3 +14,6 @@ pub mod Spellings
 pub mod BareWords
 pub mod SpelledTexts
 pub mod SpelledWords
+pub mod WrittenItems
+pub mod InsideLemmas
+pub mod WrittenFiles

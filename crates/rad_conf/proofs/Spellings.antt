@@ -9,7 +9,7 @@ use Rattle.rad_conf.specs.Words.{bare_left, bare_len, quoted_from}
 use Rattle.rad_conf.specs.Spelling.{begins_with, first_of, operators, operator_of, parts_words, is_there, ends_word, has_matching, in_braces, HasNoBraces, takes_braces, IsBare, is_quoted}
 
 -- The operator that the code finds, by its length.
-pub by_len : ℕ → ℕ → ℕ → Option (List ℕ)
+unfoldable pub by_len : ℕ → ℕ → ℕ → Option (List ℕ)
 by_len len c d = cond (len == 0) None (cond (len == 1) (Some (c ∷ [])) (Some (c ∷ d ∷ [])))
 
 pub one_octet : (c : ℕ) → operator_of (c ∷ []) ≡ by_len (operator_at c 0) c 0
