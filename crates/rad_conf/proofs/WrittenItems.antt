@@ -54,7 +54,7 @@ sign_of_len : (c : ℕ) (rest : List ℕ) → 0 < operator_at c (slice_index res
 unfolding sign_at longer_sign operator_at is_operator_pair is_operator_octet
 sign_of_len c rest some = grind (arith, common_steps)
 
-len_is : (c d : ℕ) (operator : List ℕ) → by_len (operator_at c d) c d ≡ Some operator → (0 < operator_at c d) × (length operator ≡ operator_at c d)
+pub len_is : (c d : ℕ) (operator : List ℕ) → by_len (operator_at c d) c d ≡ Some operator → (0 < operator_at c d) × (length operator ≡ operator_at c d)
 unfolding by_len operator_at
 len_is c d operator e = by (is_operator_pair c d) (is_operator_octet c) refl refl where
   by : (two one : Bool) → is_operator_pair c d ≡ two → is_operator_octet c ≡ one → (0 < operator_at c d) × (length operator ≡ operator_at c d)

@@ -2,6 +2,7 @@
 
 ghost use Rattle.rad_conf.specs.Grammar.{ReadsSingle, ReadsDouble};
 ghost use Rattle.rad_conf.specs.Spelling.{ReadsWords, SpellsWords};
+ghost use Rattle.rad_conf.specs.Written.{ReadsConf};
 
 /// What is written between quotes is read back, whatever has been read before. It does nothing when it runs.
 pub fn quoted_words_are_read_back()
@@ -18,4 +19,11 @@ pub fn words_are_read_as_they_are_spelled()
     ensures read { ReadsWords }
     // What is read is spelled so.
     ensures spelled { SpellsWords }
+{}
+
+/// A configuration is read as its items are written: pairs, names, blocks to any depth, conditions,
+/// includes, comments and what parts them, with each node's place. It does nothing when it runs.
+pub fn configurations_are_read_as_they_are_written()
+    // What is written so is read.
+    ensures read { ReadsConf }
 {}
