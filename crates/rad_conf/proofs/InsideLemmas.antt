@@ -88,7 +88,7 @@ module _ (growth : Growth) where
       size : length name + 2 ≡ length (123 ∷ (name ++ 125 ∷ []))
       size = omega (arith, length-append name (125 ∷ []))
 
-  quote_closes : (mark : ℕ) (raw text : List ℕ) → (mark == 10) ≡ false → is_quoted mark false raw ≡ true → quoted_from mark 0 false (raw ++ mark ∷ text) ≡ Some (length raw)
+  pub quote_closes : (mark : ℕ) (raw text : List ℕ) → (mark == 10) ≡ false → is_quoted mark false raw ≡ true → quoted_from mark 0 false (raw ++ mark ∷ text) ≡ Some (length raw)
   quote_closes mark raw text line within = from_zero (length raw) _ (quoted_end mark 0 false raw text line within)
 
   kept_front : (mark : ℕ) (raw text : List ℕ) → take (length raw + 2) (mark ∷ (raw ++ mark ∷ text)) ≡ mark ∷ (raw ++ mark ∷ [])
@@ -117,7 +117,7 @@ module _ (growth : Growth) where
   unfolding part_at variable_at
   variable_is awaits name found text matching is = rw (braces_there name text matching, other_part) (rw (front name text 125, is) refl)
 
-  operator_two : (c d : ℕ) (text : List ℕ) → operator_of (c ∷ d ∷ text) ≡ Some (c ∷ d ∷ []) → operator_at c d ≡ 2
+  pub operator_two : (c d : ℕ) (text : List ℕ) → operator_of (c ∷ d ∷ text) ≡ Some (c ∷ d ∷ []) → operator_at c d ≡ 2
   operator_two c d text is = sym ((len_is c d (c ∷ d ∷ []) (sym (two_octets c d text) ∙ is)).1)
 
   operator_is : (awaits : Bool) (c d : ℕ) (text : List ℕ) → operator_at c d ≡ 2 → part_at growth awaits (c ∷ d ∷ text) ≡ Ok (c ∷ d ∷ [], 1)
@@ -140,23 +140,23 @@ module _ (growth : Growth) where
   unfolding awaits_after operator_at is_operator_pair is_operator_octet
   operator_awaits awaits c d text two = grind (arith, common_steps)
 
-  abbrev Answer : Type 0
+  abbrev pub Answer : Type 0
   Answer = Result (List ℕ × ℕ × List ℕ) Wrong
 
-  abbrev answer : List ℕ → ℕ → List ℕ → Answer
+  abbrev pub answer : List ℕ → ℕ → List ℕ → Answer
   answer condition lines rest = Ok (condition, lines, rest)
 
   -- One part behind another.
-  joins : (out part condition rest : List ℕ) (lines : ℕ) → answer ((out ++ part) ++ condition) lines rest ≡ answer (out ++ (part ++ condition)) lines rest
+  pub joins : (out part condition rest : List ℕ) (lines : ℕ) → answer ((out ++ part) ++ condition) lines rest ≡ answer (out ++ (part ++ condition)) lines rest
   joins out part condition rest lines = ap (λ (xs : List ℕ). answer xs lines rest) (append_assoc out part condition)
 
-  quoted_joins : (out raw condition rest : List ℕ) (mark lines : ℕ) → answer ((out ++ (mark ∷ (raw ++ mark ∷ []))) ++ condition) lines rest ≡ answer (out ++ (mark ∷ (raw ++ mark ∷ condition))) lines rest
+  pub quoted_joins : (out raw condition rest : List ℕ) (mark lines : ℕ) → answer ((out ++ (mark ∷ (raw ++ mark ∷ []))) ++ condition) lines rest ≡ answer (out ++ (mark ∷ (raw ++ mark ∷ condition))) lines rest
   quoted_joins out raw condition rest mark lines = joins out (mark ∷ (raw ++ mark ∷ [])) condition rest lines ∙ ap (λ (xs : List ℕ). answer (out ++ (mark ∷ xs)) lines rest) (append_assoc raw (mark ∷ []) condition)
 
   not_long : (c : ℕ) (rest : List ℕ) (awaits : Bool) → is_long (operator_of (c ∷ rest)) ≡ false → is_blank c ≡ false → awaits_after awaits (c ∷ rest) ≡ false
   not_long c rest awaits short plain = awaits_plain awaits c rest short ∙ rw plain refl
 
-  line_more : (c before lines : ℕ) → line_after c before + lines ≡ before + cond (c == 10) (lines + 1) lines
+  pub line_more : (c before lines : ℕ) → line_after c before + lines ≡ before + cond (c == 10) (lines + 1) lines
   line_more c before lines = grind (arith, common_steps)
 
   paren_is : (awaits : Bool) (rest : List ℕ) → IsOther 2 awaits 41 rest
@@ -173,46 +173,76 @@ module _ (growth : Growth) where
   unfolding depth_after
   open_goes c depth some inside = grind (arith, common_steps)
 
-  open_some : (c depth : ℕ) → 0 < depth → (c == 41 && depth == 1) ≡ false → 0 < open_after c depth
+  pub open_some : (c depth : ℕ) → 0 < depth → (c == 41 && depth == 1) ≡ false → 0 < open_after c depth
   open_some c depth some inside = grind (arith, common_steps)
 
-  inside_read : (out : List ℕ) (before : ℕ) {depth lines : ℕ} {awaits : Bool} {text condition rest : List ℕ} → IsInside (value_of growth) depth awaits text condition lines rest → 0 < depth
-      → condition_from growth out depth before awaits 0 text ≡ answer (out ++ condition) (before + lines) rest
+  -- One part of a condition more.
+  abbrev pub From : List ℕ → ℕ → ℕ → Bool → List ℕ → Answer
+  From out depth before awaits text = condition_from growth out depth before awaits 0 text
+
+  pub closes_step : (out : List ℕ) (before : ℕ) (awaits : Bool) (rest : List ℕ) → From out 1 before awaits (41 ∷ rest) ≡ answer (out ++ 41 ∷ []) before rest
+  closes_step out before awaits rest = last_part out rest (41 ∷ []) 0 before awaits (octet_part growth 2 41 awaits rest (paren_is awaits rest))
+
+  pub double_step : (out : List ℕ) (before depth : ℕ) (awaits : Bool) (raw kept text : List ℕ) → is_quoted 34 false raw ≡ true → IsSpelled (value_of growth) spelling.Kept raw kept
+      → From out depth before awaits (34 ∷ (raw ++ 34 ∷ text)) ≡ From (out ++ (34 ∷ (kept ++ 34 ∷ []))) depth before false text
   unfolding first_of begins_with depth_after
-  inside_read out before (IsInside.closes awaits rest) some = last_part out rest (41 ∷ []) 0 before awaits (octet_part growth 2 41 awaits rest (paren_is awaits rest)) ∙ ap (λ (n : ℕ). answer (out ++ 41 ∷ []) n rest) (omega arith)
-  inside_read out before (IsInside.double depth lines awaits raw kept text condition rest within spells more) some =
+  double_step out before depth awaits raw kept text within spells =
       one_part out (raw ++ 34 ∷ text) (34 ∷ (kept ++ 34 ∷ [])) 34 (length raw + 1) depth before awaits (double_is awaits raw kept text within spells) refl
       ∙ ap (λ (b : Bool). condition_from growth (out ++ (34 ∷ (kept ++ 34 ∷ []))) depth before b (length raw + 1) (raw ++ 34 ∷ text)) (not_long 34 (raw ++ 34 ∷ text) awaits refl refl)
       ∙ over_quoted raw text (out ++ (34 ∷ (kept ++ 34 ∷ []))) 34 depth before false
-      ∙ inside_read (out ++ (34 ∷ (kept ++ 34 ∷ []))) before more some
-      ∙ quoted_joins out kept condition rest 34 (before + lines)
-  inside_read out before (IsInside.single depth lines awaits raw text condition rest within more) some =
+
+  pub single_step : (out : List ℕ) (before depth : ℕ) (awaits : Bool) (raw text : List ℕ) → is_quoted 39 false raw ≡ true
+      → From out depth before awaits (39 ∷ (raw ++ 39 ∷ text)) ≡ From (out ++ (39 ∷ (raw ++ 39 ∷ []))) depth before false text
+  unfolding first_of begins_with depth_after
+  single_step out before depth awaits raw text within =
       one_part out (raw ++ 39 ∷ text) (39 ∷ (raw ++ 39 ∷ [])) 39 (length raw + 1) depth before awaits (single_is awaits raw text within) refl
       ∙ ap (λ (b : Bool). condition_from growth (out ++ (39 ∷ (raw ++ 39 ∷ []))) depth before b (length raw + 1) (raw ++ 39 ∷ text)) (not_long 39 (raw ++ 39 ∷ text) awaits refl refl)
       ∙ over_quoted raw text (out ++ (39 ∷ (raw ++ 39 ∷ []))) 39 depth before false
-      ∙ inside_read (out ++ (39 ∷ (raw ++ 39 ∷ []))) before more some
-      ∙ quoted_joins out raw condition rest 39 (before + lines)
-  inside_read out before (IsInside.pattern depth lines raw text condition rest within more) some =
+
+  pub pattern_step : (out : List ℕ) (before depth : ℕ) (raw text : List ℕ) → is_quoted 47 false raw ≡ true
+      → From out depth before true (47 ∷ (raw ++ 47 ∷ text)) ≡ From (out ++ (47 ∷ (raw ++ 47 ∷ []))) depth before false text
+  unfolding first_of begins_with depth_after
+  pattern_step out before depth raw text within =
       one_part out (raw ++ 47 ∷ text) (47 ∷ (raw ++ 47 ∷ [])) 47 (length raw + 1) depth before true (pattern_is raw text within) refl
       ∙ ap (λ (b : Bool). condition_from growth (out ++ (47 ∷ (raw ++ 47 ∷ []))) depth before b (length raw + 1) (raw ++ 47 ∷ text)) (not_long 47 (raw ++ 47 ∷ text) true refl refl)
       ∙ over_quoted raw text (out ++ (47 ∷ (raw ++ 47 ∷ []))) 47 depth before false
-      ∙ inside_read (out ++ (47 ∷ (raw ++ 47 ∷ []))) before more some
-      ∙ quoted_joins out raw condition rest 47 (before + lines)
-  inside_read out before (IsInside.variable depth lines awaits name found text condition rest matching is more) some =
+
+  pub variable_step : (out : List ℕ) (before depth : ℕ) (awaits : Bool) (name found text : List ℕ) → has_matching 0 name ≡ true → value_of growth name ≡ Some found
+      → From out depth before awaits (36 ∷ in_braces name text) ≡ From (out ++ found) depth before false text
+  unfolding first_of begins_with depth_after
+  variable_step out before depth awaits name found text matching is =
       one_part out (in_braces name text) found 36 (length name + 2) depth before awaits (variable_is awaits name found text matching is) refl
       ∙ ap (λ (b : Bool). condition_from growth (out ++ found) depth before b (length name + 2) (in_braces name text)) (not_long 36 (in_braces name text) awaits refl refl)
       ∙ over_braces name text (out ++ found) depth before false
-      ∙ inside_read (out ++ found) before more some
-      ∙ joins out found condition rest (before + lines)
-  inside_read out before (IsInside.operator depth lines c d awaits text condition rest is more) some =
-      let two = operator_two c d text is in
+
+  pub operator_step : (out : List ℕ) (before depth c d : ℕ) (awaits : Bool) (text : List ℕ) → operator_at c d ≡ 2 → From out depth before awaits (c ∷ d ∷ text) ≡ From (out ++ c ∷ d ∷ []) depth before (d == 126) text
+  operator_step out before depth c d awaits text two =
       one_part out (d ∷ text) (c ∷ d ∷ []) c 1 depth before awaits (operator_is awaits c d text two) (operator_open c d depth two)
       ∙ rw (operator_depth c d depth two, operator_line c d before two, operator_awaits awaits c d text two) (passes (d ∷ []) text (out ++ c ∷ d ∷ []) depth before (d == 126))
-      ∙ inside_read (out ++ c ∷ d ∷ []) before more some
-      ∙ joins out (c ∷ d ∷ []) condition rest (before + lines)
-  inside_read out before (IsInside.octet depth lines c awaits text condition rest other more) some =
+
+  pub octet_step : (out : List ℕ) (before depth c : ℕ) (awaits : Bool) (text : List ℕ) → IsOther depth awaits c text → 0 < depth
+      → From out depth before awaits (c ∷ text) ≡ From (out ++ c ∷ []) (open_after c depth) (line_after c before) (is_blank c && awaits) text
+  unfolding depth_after
+  octet_step out before depth c awaits text other some =
       one_part out text (c ∷ []) c 0 depth before awaits (octet_part growth depth c awaits text other) (open_goes c depth some other.inside)
       ∙ ap (λ (b : Bool). condition_from growth (out ++ c ∷ []) (open_after c depth) (line_after c before) b 0 text) (awaits_plain awaits c text other.operator)
+
+  -- What is written within a condition is read.
+  inside_read : (out : List ℕ) (before : ℕ) {depth lines : ℕ} {awaits : Bool} {text condition rest : List ℕ} → IsInside (value_of growth) depth awaits text condition lines rest → 0 < depth
+      → From out depth before awaits text ≡ answer (out ++ condition) (before + lines) rest
+  inside_read out before (IsInside.closes awaits rest) some = closes_step out before awaits rest ∙ ap (λ (n : ℕ). answer (out ++ 41 ∷ []) n rest) (omega arith)
+  inside_read out before (IsInside.double depth lines awaits raw kept text condition rest within spells more) some =
+      double_step out before depth awaits raw kept text within spells ∙ inside_read (out ++ (34 ∷ (kept ++ 34 ∷ []))) before more some ∙ quoted_joins out kept condition rest 34 (before + lines)
+  inside_read out before (IsInside.single depth lines awaits raw text condition rest within more) some =
+      single_step out before depth awaits raw text within ∙ inside_read (out ++ (39 ∷ (raw ++ 39 ∷ []))) before more some ∙ quoted_joins out raw condition rest 39 (before + lines)
+  inside_read out before (IsInside.pattern depth lines raw text condition rest within more) some =
+      pattern_step out before depth raw text within ∙ inside_read (out ++ (47 ∷ (raw ++ 47 ∷ []))) before more some ∙ quoted_joins out raw condition rest 47 (before + lines)
+  inside_read out before (IsInside.variable depth lines awaits name found text condition rest matching is more) some =
+      variable_step out before depth awaits name found text matching is ∙ inside_read (out ++ found) before more some ∙ joins out found condition rest (before + lines)
+  inside_read out before (IsInside.operator depth lines c d awaits text condition rest is more) some =
+      operator_step out before depth c d awaits text (operator_two c d text is) ∙ inside_read (out ++ c ∷ d ∷ []) before more some ∙ joins out (c ∷ d ∷ []) condition rest (before + lines)
+  inside_read out before (IsInside.octet depth lines c awaits text condition rest other more) some =
+      octet_step out before depth c awaits text other some
       ∙ inside_read (out ++ c ∷ []) (line_after c before) more (open_some c depth some other.inside)
       ∙ joins out (c ∷ []) condition rest (line_after c before + lines)
       ∙ ap (λ (n : ℕ). answer (out ++ c ∷ condition) n rest) (line_more c before lines)

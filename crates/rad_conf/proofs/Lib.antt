@@ -17,3 +17,6 @@ pub mod SpelledWords
 pub mod WrittenItems
 pub mod InsideLemmas
 pub mod WrittenFiles
+pub mod WrittenFound
+pub mod InsideFound
+pub mod FilesFound

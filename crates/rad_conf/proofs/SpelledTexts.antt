@@ -23,7 +23,7 @@ variable_there : (name rest : List ℕ) → has_matching 0 name ≡ true → var
 unfolding variable_at
 variable_there name rest matching = braces_there name rest matching
 
-variable_found : (n : ℕ) (text : List ℕ) → variable_at text ≡ Some n → (name : List ℕ) × (after : List ℕ) × (text ≡ 36 ∷ in_braces name after) × (has_matching 0 name ≡ true)
+pub variable_found : (n : ℕ) (text : List ℕ) → variable_at text ≡ Some n → (name : List ℕ) × (after : List ℕ) × (text ≡ 36 ∷ in_braces name after) × (has_matching 0 name ≡ true)
 unfolding variable_at
 variable_found n [] e = absurd cc
 variable_found n (c ∷ rest) e = by (c == 36) refl where

@@ -43,10 +43,10 @@ begins_block file kind name lines around outside spot =
     growth_with : List Open → Growth
     growth_with opens = record { line = spot.line + lines; opens = opens; nodes = []; outside = outside; octets = spot.octets }
 
-is_below : (n m : ℕ) → n < m → nat_lt n m ≡ true
+pub is_below : (n m : ℕ) → n < m → nat_lt n m ≡ true
 is_below n m less = grind (arith, common_steps)
 
-not_below : (n m : ℕ) → m ≤ n → nat_lt n m ≡ false
+pub not_below : (n m : ℕ) → m ≤ n → nat_lt n m ≡ false
 not_below n m less = grind (arith, common_steps)
 
 pub closes_block : (file : List ℕ) (block : Open) (around : List Open) (outside : ℕ) (last : Spot) → outside ≤ length around

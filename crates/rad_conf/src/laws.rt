@@ -2,7 +2,7 @@
 
 ghost use Rattle.rad_conf.specs.Grammar.{ReadsSingle, ReadsDouble};
 ghost use Rattle.rad_conf.specs.Spelling.{ReadsWords, SpellsWords};
-ghost use Rattle.rad_conf.specs.Written.{ReadsConf};
+ghost use Rattle.rad_conf.specs.Written.{ReadsConf, SpellsConf};
 
 /// What is written between quotes is read back, whatever has been read before. It does nothing when it runs.
 pub fn quoted_words_are_read_back()
@@ -21,9 +21,11 @@ pub fn words_are_read_as_they_are_spelled()
     ensures spelled { SpellsWords }
 {}
 
-/// A configuration is read as its items are written: pairs, names, blocks to any depth, conditions,
-/// includes, comments and what parts them, with each node's place. It does nothing when it runs.
+/// A configuration is read exactly where its items are written: pairs, names, blocks to any depth,
+/// conditions, includes, comments and what parts them, with each node's place. It does nothing when it runs.
 pub fn configurations_are_read_as_they_are_written()
     // What is written so is read.
     ensures read { ReadsConf }
+    // What is read is written so.
+    ensures written { SpellsConf }
 {}
