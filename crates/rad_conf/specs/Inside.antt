@@ -1,4 +1,5 @@
--- How conditions are spelled in octets. After the manual page unlang(5), apart from how they are read.
+-- How conditions are spelled in octets, from a `(` to its matching `)`. After the manual page unlang(5), apart from how they are
+-- read.
 use Rattle.std.specs.Prelude.{◌≡◌, ℕ, ◌+◌, ◌-◌, Bool, true, false, ◌&&◌, ◌||◌, ◌==◌, List, [], ◌∷◌, ◌++◌, Option, Some, None, if◌then◌else◌}
 use Rattle.rad_text.specs.Blanks.{is_blank}
 use Rattle.rad_conf.specs.declared.spelling.Spelling.TheVariants as spelling
@@ -8,7 +9,7 @@ use Rattle.rad_conf.specs.Spelling.{operator_of, has_matching, in_braces, HasNoV
 abbrev pub open_after : ℕ → ℕ → ℕ
 open_after c depth = if c == 40 then depth + 1 else (if c == 41 then depth - 1 else depth)
 
--- How many octets of operators an operator has, or none.
+-- Whether an operator stands there that has two octets.
 abbrev pub is_long : Option (List ℕ) → Bool
 is_long None = false
 is_long (Some []) = false

@@ -35,6 +35,7 @@ unfoldable pub parts_words : ℕ → Bool
 parts_words c =
     c == 32 || c == 9 || c == 10 || c == 44 || c == 123 || c == 125 || c == 35 || c == 34 || c == 39 || c == 61 || c == 60 || c == 62
 
+-- Whether something was found.
 abbrev pub is_there : Option (List ℕ) → Bool
 is_there None = false
 is_there (Some text) = true
