@@ -20,3 +20,4 @@ pub mod WrittenFiles
 pub mod WrittenFound
 pub mod InsideFound
 pub mod FilesFound
+pub mod JoinedLines

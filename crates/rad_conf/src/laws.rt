@@ -3,6 +3,7 @@
 ghost use Rattle.rad_conf.specs.Grammar.{ReadsSingle, ReadsDouble};
 ghost use Rattle.rad_conf.specs.Spelling.{ReadsWords, SpellsWords};
 ghost use Rattle.rad_conf.specs.Written.{ReadsConf, SpellsConf};
+ghost use Rattle.rad_conf.specs.WrittenLines.{EndsLines, EndsWindowsLines, JoinsLines};
 
 /// What is written between quotes is read back, whatever has been read before. It does nothing when it runs.
 pub fn quoted_words_are_read_back()
@@ -28,4 +29,13 @@ pub fn configurations_are_read_as_they_are_written()
     ensures read { ReadsConf }
     // What is read is written so.
     ensures written { SpellsConf }
+{}
+
+/// A text without a newline is a line wherever a newline ends it, or a carriage return and a newline; and a
+/// backslash before the newline joins the next line to it, so that the lines behind keep their numbers.
+/// It does nothing when it runs.
+pub fn lines_are_read_as_they_are_written()
+    ensures newline { EndsLines }
+    ensures carriage_return { EndsWindowsLines }
+    ensures joined { JoinsLines }
 {}
