@@ -1,11 +1,11 @@
 -- A bare word goes as far as it is written to.
-use Rattle.std.proofs.Common.{◌≡◌, ℕ, zero, suc, ◌+◌, ◌≤◌, Bool, true, false, ◌==◌, cond, List, [], ◌∷◌, ◌++◌, length, slice_index, Option, Some, None, codes, refl, sym, ap, subst, ◌∙◌, append_assoc, arith}
+use Rattle.std.proofs.Common.{◌≡◌, ℕ, zero, suc, ◌+◌, ◌≤◌, Bool, true, false, List, [], ◌∷◌, ◌++◌, length, slice_index, Option, Some, None, codes, refl, sym, ap, ◌∙◌, append_assoc, arith}
 use Rattle.std.proofs.lemmas.List.{length-append}
 use Rattle.std.proofs.lemmas.Grind.{common_steps}
-use Rattle.rad_conf.specs.Signs.{is_count, group_len, bare_at, braces_at}
+use Rattle.rad_conf.specs.Signs.{is_count, bare_at, braces_at}
 use Rattle.rad_conf.specs.Words.{bare_len}
 use Rattle.rad_conf.specs.Spelling.{begins_with, first_of, parts_words, ends_word, has_matching, in_braces, HasNoBraces, takes_braces, IsBare}
-use Rattle.rad_conf.proofs.Spellings.{goes_bare, len_ends, len_goes, len_passes, braces_there, braces_found, no_braces, none_there}
+use Rattle.rad_conf.proofs.Spellings.{len_ends, len_goes, len_passes, braces_there, braces_found, no_braces, none_there}
 
 -- How many octets of a bare word begin at the front.
 one_there : (c : ℕ) (rest : List ℕ) → begins_with (codes "[#]") (c ∷ rest) ≡ false → (takes_braces c ≡ true → HasNoBraces rest) → bare_at c rest ≡ 1

@@ -1,6 +1,6 @@
 -- Files that are read are written so.
-use Rattle.std.proofs.Common.{◌≡◌, ℕ, zero, suc, ◌+◌, ◌≤◌, ◌<◌, Bool, true, false, cond, nat_lt, List, [], ◌∷◌, ◌++◌, length, reverse, Option, Some, None, Result, Ok, Err, refl, sym, ap, subst, ◌∙◌, arith}
-use Rattle.std.proofs.lemmas.List.{length-append, reverse-append, reverse-reverse, length-reverse}
+use Rattle.std.proofs.Common.{◌≡◌, ℕ, zero, suc, ◌+◌, ◌≤◌, Bool, true, false, nat_lt, List, [], ◌∷◌, ◌++◌, length, reverse, Option, Some, None, Result, Ok, Err, refl, sym, ap, subst, ◌∙◌, arith}
+use Rattle.std.proofs.lemmas.List.{length-append, reverse-reverse, length-reverse}
 use Rattle.std.proofs.lemmas.Grind.{common_steps}
 use Rattle.rad_outside.specs.declared.files.Place.{Place}
 use Rattle.rad_outside.specs.Files.{File, octets_at}
@@ -9,7 +9,6 @@ use Rattle.rad_text.specs.Paths.{place_at, beside, joined}
 use Rattle.rad_conf.specs.declared.fault.Wrong.{Wrong}
 use Rattle.rad_conf.specs.declared.fault.ConfFault.{ConfFault}
 use Rattle.rad_conf.specs.declared.fault.ConfFault.TheVariants as fault
-use Rattle.rad_conf.specs.declared.tree.Word.{Word}
 use Rattle.rad_conf.specs.declared.tree.Node.{Node}
 use Rattle.rad_conf.specs.declared.mark.Mark.{Mark}
 use Rattle.rad_conf.specs.declared.mark.Mark.TheVariants as mark
@@ -17,12 +16,11 @@ use Rattle.rad_conf.specs.declared.growth.Open.{Open}
 use Rattle.rad_conf.specs.declared.growth.Growth.{Growth}
 use Rattle.rad_conf.specs.Lines.{lines_of}
 use Rattle.rad_conf.specs.Marks.{mark_at}
-use Rattle.rad_conf.specs.Growth.{Include, placed, fault_of, closes, ended, ends, taken, grown, counted, begun, resumed, text_read, with_block, first_growth}
+use Rattle.rad_conf.specs.Growth.{Include, placed, closes, ended, ends, taken, grown, resumed, text_read, first_growth}
 use Rattle.rad_conf.specs.Includes.{paths_of, found_at, found_read, missing, paths_read, listed_read, include_read}
 use Rattle.rad_conf.specs.Conf.{root_of, path_of, conf_of, conf_from, conf_at}
 use Rattle.rad_conf.specs.Written.{Spot, Included, next_line, with_item, opened, within, behind_block, AreItems, first_line, IsFile, AreFiles, AreTaken, IsIncluded, first_spot, IsConf}
-use Rattle.rad_conf.proofs.Going.{made, one_mark, no_marks}
-use Rattle.rad_conf.proofs.SpelledWords.{read_as}
+use Rattle.rad_conf.proofs.Going.{made, no_marks}
 use Rattle.rad_conf.proofs.InsideFound.{condition_found}
 use Rattle.rad_conf.proofs.WrittenFound.{Marked, mark_found}
 use Rattle.rad_conf.proofs.WrittenFiles.{growth_at, begins_block, closes_block, is_below, not_below}

@@ -1,10 +1,9 @@
 -- Conditions that are read are written so.
-use Rattle.std.proofs.Common.{◌≡◌, ℕ, zero, suc, ◌+◌, ◌≤◌, ◌<◌, Bool, true, false, ◌==◌, cond, List, [], ◌∷◌, ◌++◌, length, take, drop, slice_index, Option, Some, None, Result, Ok, Err, refl, sym, ap, subst, ◌∙◌, append_assoc, arith}
+use Rattle.std.proofs.Common.{◌≡◌, ℕ, zero, suc, ◌+◌, ◌≤◌, ◌<◌, Bool, true, false, ◌==◌, cond, List, [], ◌∷◌, ◌++◌, length, slice_index, Option, Some, None, Result, Ok, Err, refl, sym, ap, subst, ◌∙◌, append_assoc, arith}
 use Rattle.std.specs.Prelude.{◌&&◌, ◌||◌}
 use Rattle.std.proofs.lemmas.Bool.{eqb-true}
 use Rattle.std.proofs.lemmas.List.{length-append}
 use Rattle.std.proofs.lemmas.Grind.{common_steps}
-use Rattle.rad_text.specs.Read.{◌>>=◌}
 use Rattle.rad_text.specs.Blanks.{is_blank}
 use Rattle.rad_conf.specs.declared.fault.Wrong.{Wrong}
 use Rattle.rad_conf.specs.declared.fault.Wrong.TheVariants as wrong
@@ -15,13 +14,13 @@ use Rattle.rad_conf.specs.Signs.{operator_at, is_operator_pair, is_operator_octe
 use Rattle.rad_conf.specs.Variables.{value_of}
 use Rattle.rad_conf.specs.Words.{quoted_from, spelled_from}
 use Rattle.rad_conf.specs.Conditions.{double_part, single_part, other_part, part_at, line_after, condition_from, condition_at}
-use Rattle.rad_conf.specs.Spelling.{operator_of, has_matching, in_braces, HasNoVariable, is_quoted, IsSpelled}
-use Rattle.rad_conf.specs.Inside.{open_after, is_long, IsOther, IsInside, IsCondition}
+use Rattle.rad_conf.specs.Spelling.{has_matching, in_braces, is_quoted}
+use Rattle.rad_conf.specs.Inside.{open_after, IsOther, IsInside, IsCondition}
 use Rattle.rad_conf.proofs.Quoted.{front}
 use Rattle.rad_conf.proofs.Spellings.{by_len, two_octets, quoted_found, braces_there}
 use Rattle.rad_conf.proofs.BareWords.{braces_length}
 use Rattle.rad_conf.proofs.SpelledTexts.{no_variable, variable_found, spelled_found, quoted_whole}
-use Rattle.rad_conf.proofs.InsideLemmas.{long_is, Answer, answer, From, closes_step, double_step, single_step, pattern_step, variable_step, operator_step, octet_step, joins, quoted_joins, line_more, open_some, quote_closes, opens_first}
+use Rattle.rad_conf.proofs.InsideLemmas.{long_is, Answer, answer, From, closes_step, double_step, single_step, pattern_step, variable_step, operator_step, octet_step, line_more, open_some, quote_closes, opens_first}
 
 two_by : (c d : ℕ) → by_len 2 c d ≡ Some (c ∷ d ∷ [])
 unfolding by_len

@@ -1,20 +1,18 @@
 -- Conditions are read as they are written.
-use Rattle.std.proofs.Common.{◌≡◌, ℕ, zero, suc, ◌+◌, ◌-◌, ◌≤◌, ◌<◌, Bool, true, false, ◌==◌, cond, List, [], ◌∷◌, ◌++◌, length, take, drop, slice_index, Option, Some, None, Result, Ok, Err, refl, sym, ap, subst, ◌∙◌, append_assoc, arith}
-use Rattle.std.specs.Prelude.{◌&&◌, ◌||◌}
+use Rattle.std.proofs.Common.{◌≡◌, ℕ, suc, ◌+◌, ◌<◌, Bool, true, false, ◌==◌, cond, List, [], ◌∷◌, ◌++◌, length, take, slice_index, Option, Some, None, Result, Ok, refl, sym, ap, ◌∙◌, append_assoc, arith}
+use Rattle.std.specs.Prelude.{◌&&◌}
 use Rattle.std.proofs.lemmas.List.{length-append}
 use Rattle.std.proofs.lemmas.Grind.{common_steps}
-use Rattle.rad_text.specs.Read.{◌>>=◌}
 use Rattle.rad_text.specs.Blanks.{is_blank}
 use Rattle.rad_conf.specs.declared.fault.Wrong.{Wrong}
 use Rattle.rad_conf.specs.declared.spelling.Spelling.TheVariants as spelling
-use Rattle.rad_conf.specs.declared.spelling.Ahead.TheVariants.{Reads}
 use Rattle.rad_conf.specs.declared.tree.Word.{Word}
 use Rattle.rad_conf.specs.declared.growth.Growth.{Growth}
 use Rattle.rad_conf.specs.Signs.{is_operator_pair, is_operator_octet, operator_at, variable_at}
 use Rattle.rad_conf.specs.Variables.{value_of}
-use Rattle.rad_conf.specs.Words.{behind, quoted_from, quoted_len, spelled_from, variable_part}
+use Rattle.rad_conf.specs.Words.{behind, quoted_from}
 use Rattle.rad_conf.specs.Conditions.{double_part, single_part, pattern_part, other_part, part_at, awaits_after, depth_after, line_after, condition_from, condition_at}
-use Rattle.rad_conf.specs.Spelling.{begins_with, first_of, operator_of, has_matching, in_braces, HasNoVariable, is_quoted, IsSpelled}
+use Rattle.rad_conf.specs.Spelling.{begins_with, first_of, operator_of, has_matching, in_braces, is_quoted, IsSpelled}
 use Rattle.rad_conf.specs.Inside.{open_after, is_long, IsOther, IsInside, IsCondition}
 use Rattle.rad_conf.specs.Written.{IsHead}
 use Rattle.rad_conf.proofs.Quoted.{front, from_zero}

@@ -8,11 +8,11 @@ use Rattle.rad_conf.specs.declared.fault.Wrong.{Wrong}
 use Rattle.rad_conf.specs.declared.fault.Wrong.TheVariants as wrong
 use Rattle.rad_conf.specs.declared.spelling.Spelling.{Spelling}
 use Rattle.rad_conf.specs.declared.spelling.Ahead.{Ahead}
-use Rattle.rad_conf.specs.declared.spelling.Ahead.TheVariants.{Reads, Escaped, Passes}
+use Rattle.rad_conf.specs.declared.spelling.Ahead.TheVariants.{Reads, Passes}
 use Rattle.rad_conf.specs.declared.growth.Growth.{Growth}
-use Rattle.rad_conf.specs.Signs.{braces_at, variable_at}
+use Rattle.rad_conf.specs.Signs.{variable_at}
 use Rattle.rad_conf.specs.Variables.{value_of}
-use Rattle.rad_conf.specs.Words.{escape_of, has_escapes, has_variables, variable_in, behind, variable_part, reads, spelled_by, spelled_from}
+use Rattle.rad_conf.specs.Words.{escape_of, has_escapes, has_variables, variable_in, behind, variable_part, reads, spelled_from}
 use Rattle.rad_conf.specs.Spelling.{has_matching, in_braces, is_quoted, HasNoVariable, IsSpelled}
 use Rattle.rad_conf.proofs.Quoted.{front}
 use Rattle.rad_conf.proofs.Spellings.{braces_there, braces_found}

@@ -1,6 +1,5 @@
 -- Words are read as they are spelled.
-use Rattle.std.proofs.Common.{◌≡◌, ℕ, suc, ◌+◌, ◌≤◌, Bool, true, false, ◌==◌, cond, List, [], ◌∷◌, ◌++◌, length, take, drop, Option, Some, None, Result, Ok, Err, refl, sym, ap, subst, ◌∙◌, append_assoc, arith}
-use Rattle.std.proofs.lemmas.Bool.{eqb-true}
+use Rattle.std.proofs.Common.{◌≡◌, ℕ, Bool, true, false, ◌==◌, List, [], ◌∷◌, ◌++◌, length, take, drop, Option, Some, None, Result, Ok, Err, refl, sym, ap, subst, ◌∙◌, arith}
 use Rattle.std.proofs.lemmas.Grind.{common_steps}
 use Rattle.rad_text.specs.Read.{◌>>=◌}
 use Rattle.rad_conf.specs.declared.fault.Wrong.{Wrong}
@@ -16,14 +15,14 @@ use Rattle.rad_conf.specs.declared.spelling.Ahead.TheVariants.{Reads}
 use Rattle.rad_conf.specs.declared.growth.Growth.{Growth}
 use Rattle.rad_conf.specs.Signs.{sign_at, longer_sign, bare_octets}
 use Rattle.rad_conf.specs.Variables.{value_of}
-use Rattle.rad_conf.specs.Words.{has_escapes, quoted_from, bare_len, bare_word, quoted_word, word_by, word_at, spelled_from}
+use Rattle.rad_conf.specs.Words.{quoted_from, bare_word, quoted_word, word_by, word_at, spelled_from}
 use Rattle.rad_conf.specs.Grammar.{word}
 use Rattle.rad_conf.specs.Spelling.{ends_word, is_quoted, IsBare, IsSpelled, IsWord}
 use Rattle.rad_conf.proofs.Quoted.{quoted, front, back, from_zero}
 use Rattle.rad_conf.proofs.WordLemmas.{sign_some}
 use Rattle.rad_conf.proofs.Spellings.{goes_bare, ends_here, quoted_end, quoted_found}
 use Rattle.rad_conf.proofs.BareWords.{bare_read, each_bare, bare_begins, bare_ends}
-use Rattle.rad_conf.proofs.SpelledTexts.{spelled_read, spelled_found, quoted_whole, is_whole}
+use Rattle.rad_conf.proofs.SpelledTexts.{spelled_read, spelled_found, quoted_whole}
 
 pub whole_front : (xs rest : List ℕ) → take (length xs) (xs ++ rest) ≡ xs
 whole_front [] rest = refl

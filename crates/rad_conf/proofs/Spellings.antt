@@ -1,12 +1,10 @@
 -- Operators, quotes and braces, as they are written and as the code finds them.
-use Rattle.std.proofs.Common.{◌≡◌, ℕ, suc, ◌+◌, ◌-◌, ◌≤◌, ◌<◌, Bool, true, false, ◌==◌, cond, List, [], ◌∷◌, ◌++◌, length, take, drop, slice_index, Option, Some, None, Result, Ok, Err, refl, sym, ap, ◌∙◌, append_assoc, arith}
-use Rattle.std.proofs.lemmas.List.{length-append}
+use Rattle.std.proofs.Common.{◌≡◌, ℕ, suc, ◌+◌, ◌-◌, Bool, true, false, ◌==◌, cond, List, [], ◌∷◌, ◌++◌, length, slice_index, Option, Some, None, refl, ap, ◌∙◌, arith}
 use Rattle.std.proofs.lemmas.Grind.{common_steps}
-use Rattle.rad_conf.specs.declared.sign.Sign.{Sign}
 use Rattle.rad_conf.specs.declared.sign.Sign.TheVariants as sign
-use Rattle.rad_conf.specs.Signs.{is_operator_pair, is_operator_octet, operator_at, braces_after, inside_from, braces_at, variable_at, is_count, group_len, bare_at, longer_sign, sign_at, bare_octets}
-use Rattle.rad_conf.specs.Words.{bare_left, bare_len, quoted_from}
-use Rattle.rad_conf.specs.Spelling.{begins_with, first_of, operators, operator_of, parts_words, is_there, ends_word, has_matching, in_braces, HasNoBraces, takes_braces, IsBare, is_quoted}
+use Rattle.rad_conf.specs.Signs.{is_operator_pair, is_operator_octet, operator_at, braces_after, inside_from, braces_at, bare_at, longer_sign, sign_at, bare_octets}
+use Rattle.rad_conf.specs.Words.{bare_len, quoted_from}
+use Rattle.rad_conf.specs.Spelling.{begins_with, first_of, operator_of, parts_words, is_there, ends_word, has_matching, in_braces, HasNoBraces, is_quoted}
 
 -- The operator that the code finds, by its length.
 unfoldable pub by_len : ℕ → ℕ → ℕ → Option (List ℕ)

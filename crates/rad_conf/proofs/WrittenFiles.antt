@@ -1,12 +1,10 @@
 -- Files are read as they are written.
-use Rattle.std.proofs.Common.{◌≡◌, ℕ, zero, suc, ◌+◌, ◌≤◌, ◌<◌, Bool, true, false, cond, nat_lt, List, [], ◌∷◌, ◌++◌, length, reverse, Option, Some, None, Result, Ok, Err, refl, sym, ap, subst, ◌∙◌, arith}
-use Rattle.std.proofs.lemmas.List.{length-append, reverse-append, reverse-reverse, length-reverse}
+use Rattle.std.proofs.Common.{◌≡◌, ℕ, zero, suc, ◌+◌, ◌≤◌, ◌<◌, Bool, true, false, nat_lt, List, [], ◌∷◌, ◌++◌, length, reverse, Option, Some, None, Ok, refl, sym, ap, ◌∙◌, arith}
+use Rattle.std.proofs.lemmas.List.{reverse-append, reverse-reverse, length-reverse}
 use Rattle.std.proofs.lemmas.Grind.{common_steps}
 use Rattle.rad_outside.specs.declared.files.Place.{Place}
-use Rattle.rad_outside.specs.Files.{File, octets_at}
-use Rattle.rad_text.specs.Read.{◌>>=◌}
-use Rattle.rad_text.specs.Paths.{place_at, beside, joined}
-use Rattle.rad_conf.specs.declared.fault.ConfFault.{ConfFault}
+use Rattle.rad_outside.specs.Files.{File}
+use Rattle.rad_text.specs.Paths.{place_at, beside}
 use Rattle.rad_conf.specs.declared.tree.Word.{Word}
 use Rattle.rad_conf.specs.declared.tree.Node.{Node}
 use Rattle.rad_conf.specs.declared.mark.Mark.{Mark}
@@ -14,14 +12,11 @@ use Rattle.rad_conf.specs.declared.mark.Mark.TheVariants as mark
 use Rattle.rad_conf.specs.declared.growth.Open.{Open}
 use Rattle.rad_conf.specs.declared.growth.Growth.{Growth}
 use Rattle.rad_conf.specs.Lines.{lines_of}
-use Rattle.rad_conf.specs.Conditions.{condition_at}
 use Rattle.rad_conf.specs.Marks.{mark_at}
-use Rattle.rad_conf.specs.Variables.{value_of}
-use Rattle.rad_conf.specs.Growth.{Include, placed, closed, closes, ended, ends, taken, grown, counted, begun, resumed, text_read, with_block, first_growth}
-use Rattle.rad_conf.specs.Includes.{paths_of, found_at, found_read, paths_read, listed_read, include_read}
-use Rattle.rad_conf.specs.Conf.{root_of, path_of, conf_of, conf_from, conf_at}
-use Rattle.rad_conf.specs.Inside.{IsCondition}
-use Rattle.rad_conf.specs.Written.{Spot, Included, next_line, with_item, opened, within, behind_block, IsHead, AreItems, first_line, IsFile, AreFiles, AreTaken, IsIncluded, first_spot, IsConf}
+use Rattle.rad_conf.specs.Growth.{Include, closes, ended, ends, taken, grown, text_read, with_block}
+use Rattle.rad_conf.specs.Includes.{paths_of, paths_read, listed_read, include_read}
+use Rattle.rad_conf.specs.Conf.{root_of, conf_of, conf_at}
+use Rattle.rad_conf.specs.Written.{Spot, Included, next_line, with_item, opened, within, behind_block, AreItems, first_line, IsFile, AreFiles, AreTaken, IsIncluded, IsConf}
 use Rattle.rad_conf.proofs.Going.{made, one_mark, no_marks}
 use Rattle.rad_conf.proofs.SpelledWords.{read_as}
 use Rattle.rad_conf.proofs.WrittenItems.{whole_read, whole_shorter, include_read as directive_read, include_shorter, head_read, parts_read, parts_shorter, line_read, close_read}

@@ -1,6 +1,6 @@
 -- Items that are read are written so.
-use Rattle.std.proofs.Common.{◌≡◌, ℕ, zero, suc, ◌+◌, ◌≤◌, ◌<◌, Bool, true, false, ◌==◌, ◌⊎◌, inl, inr, cond, List, [], ◌∷◌, ◌++◌, length, take, drop, slice_index, Option, Some, None, Result, Ok, Err, codes, refl, sym, ap, subst, ◌∙◌, arith}
-use Rattle.std.specs.Prelude.{◌&&◌, ◌||◌}
+use Rattle.std.proofs.Common.{◌≡◌, ℕ, zero, suc, ◌<◌, Bool, true, false, ◌==◌, ◌⊎◌, inl, inr, cond, List, [], ◌∷◌, ◌++◌, take, drop, slice_index, Option, Some, None, Result, Ok, Err, codes, refl, sym, ap, subst, ◌∙◌, arith}
+use Rattle.std.specs.Prelude.{◌&&◌}
 use Rattle.std.specs.Str.{bytes_eq}
 use Rattle.std.proofs.lemmas.Bool.{eqb-true}
 use Rattle.std.proofs.lemmas.Slice.Eq.{bytes_eq-Decides}
@@ -14,7 +14,6 @@ use Rattle.rad_conf.specs.declared.sign.Sign.TheVariants as sign
 use Rattle.rad_conf.specs.declared.tree.Quote.{Quote}
 use Rattle.rad_conf.specs.declared.tree.Quote.TheVariants.{Bare, Single, Double}
 use Rattle.rad_conf.specs.declared.tree.Word.{Word}
-use Rattle.rad_conf.specs.declared.tree.Item.{Item}
 use Rattle.rad_conf.specs.declared.tree.Item.TheVariants as item
 use Rattle.rad_conf.specs.declared.item.Keyword.{Keyword}
 use Rattle.rad_conf.specs.declared.item.Keyword.TheVariants as keyword
@@ -24,11 +23,11 @@ use Rattle.rad_conf.specs.declared.growth.Growth.{Growth}
 use Rattle.rad_conf.specs.Signs as signs
 use Rattle.rad_conf.specs.Signs.{sign_at, longer_sign, operator_at, is_operator_pair, is_operator_octet}
 use Rattle.rad_conf.specs.Variables.{value_of}
-use Rattle.rad_conf.specs.Words.{bare_len, bare_text, word_at, after_comment}
+use Rattle.rad_conf.specs.Words.{bare_text, word_at, after_comment}
 use Rattle.rad_conf.specs.Conditions.{condition_at}
 use Rattle.rad_conf.specs.Marks.{bare, ended_at, stands_alone, pair_at, opened_at, block_at, named, item_by, plain_item, condition_item, include_item, keyword_of, item_of, item_at, mark_by, mark_at}
 use Rattle.rad_conf.specs.Grammar.{word, lacks}
-use Rattle.rad_conf.specs.Spelling.{begins_with, first_of, operator_of, IsBare, IsWord}
+use Rattle.rad_conf.specs.Spelling.{operator_of, IsBare, IsWord}
 use Rattle.rad_conf.specs.Inside.{IsCondition}
 use Rattle.rad_conf.specs.Written.{ends_item, BeginsPlain, IsOperator, IsWhole, IsHead, include_word, IsInclude, Parts}
 use Rattle.rad_conf.proofs.Spellings.{by_len, one_octet, two_octets}

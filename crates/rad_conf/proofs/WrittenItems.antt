@@ -1,33 +1,29 @@
 -- Items are read as they are written.
-use Rattle.std.proofs.Common.{◌≡◌, ℕ, zero, suc, ◌+◌, ◌≤◌, ◌<◌, Bool, true, false, ◌==◌, ◌⊎◌, inl, inr, cond, List, [], ◌∷◌, ◌++◌, length, take, drop, slice_index, Option, Some, None, Result, Ok, Err, codes, refl, sym, ap, subst, ◌∙◌, arith}
+use Rattle.std.proofs.Common.{◌≡◌, ℕ, ◌≤◌, ◌<◌, Bool, true, false, ◌⊎◌, inl, inr, List, [], ◌∷◌, ◌++◌, length, take, drop, slice_index, Option, Some, None, Ok, codes, refl, sym, ap, ◌∙◌, arith}
 use Rattle.std.proofs.lemmas.List.{length-append}
 use Rattle.std.proofs.lemmas.Grind.{common_steps}
-use Rattle.std.specs.Str.{bytes_eq}
-use Rattle.rad_text.specs.Read.{◌>>=◌}
 use Rattle.rad_text.specs.Blanks.{is_blank, after_blanks}
-use Rattle.rad_conf.specs.declared.fault.Wrong.{Wrong}
 use Rattle.rad_conf.specs.declared.sign.Sign.{Sign}
 use Rattle.rad_conf.specs.declared.sign.Sign.TheVariants as sign
-use Rattle.rad_conf.specs.declared.tree.Quote.TheVariants.{Bare, Single, Double}
+use Rattle.rad_conf.specs.declared.tree.Quote.TheVariants.{Bare}
 use Rattle.rad_conf.specs.declared.tree.Word.{Word}
 use Rattle.rad_conf.specs.declared.tree.Item.{Item}
 use Rattle.rad_conf.specs.declared.tree.Item.TheVariants as item
 use Rattle.rad_conf.specs.declared.item.Keyword.{Keyword}
 use Rattle.rad_conf.specs.declared.item.Keyword.TheVariants as keyword
-use Rattle.rad_conf.specs.declared.mark.Mark.{Mark}
 use Rattle.rad_conf.specs.declared.mark.Mark.TheVariants as mark
 use Rattle.rad_conf.specs.declared.growth.Growth.{Growth}
 use Rattle.rad_conf.specs.Signs as signs
 use Rattle.rad_conf.specs.Signs.{sign_at, longer_sign, operator_at, is_operator_pair, is_operator_octet}
 use Rattle.rad_conf.specs.Variables.{value_of}
-use Rattle.rad_conf.specs.Words.{bare_len, bare_text, word_at, after_comment, is_condition}
+use Rattle.rad_conf.specs.Words.{bare_len, bare_text, after_comment, is_condition}
 use Rattle.rad_conf.specs.Conditions.{condition_at}
-use Rattle.rad_conf.specs.Marks.{bare, stands_alone, pair_at, opened_at, block_at, named, item_by, plain_item, condition_item, include_item, keyword_of, item_of, item_at, mark_by, mark_at}
+use Rattle.rad_conf.specs.Marks.{bare, stands_alone, pair_at, block_at, item_by, plain_item, condition_item, include_item, keyword_of, item_of, item_at, mark_by, mark_at}
 use Rattle.rad_conf.specs.Grammar.{word, lacks}
-use Rattle.rad_conf.specs.Spelling.{begins_with, first_of, operator_of, ends_word, IsBare, IsWord}
+use Rattle.rad_conf.specs.Spelling.{begins_with, first_of, IsBare, IsWord}
 use Rattle.rad_conf.specs.Inside.{IsCondition}
-use Rattle.rad_conf.specs.Written.{ends_item, BeginsPlain, IsOperator, IsWhole, IsHead, include_word, IsInclude, Parts}
-use Rattle.rad_conf.proofs.Spellings.{by_len, one_octet, two_octets, goes_bare, ends_here}
+use Rattle.rad_conf.specs.Written.{ends_item, BeginsPlain, IsOperator, IsWhole, IsHead, IsInclude, Parts}
+use Rattle.rad_conf.proofs.Spellings.{by_len, one_octet, two_octets, goes_bare}
 use Rattle.rad_conf.proofs.BareWords.{bare_read, each_bare, bare_begins}
 use Rattle.rad_conf.proofs.SpelledWords.{whole_front, whole_back, read_as, word_read}
 
