@@ -51,12 +51,12 @@ pub stops_fault : {A : Type 0} (said : Result A ConfFault) (e : ConfFault) → S
 stops_fault (Ok x) e same = rw same tt
 stops_fault {A = A} (Err said) e same = is_fault A said e same
 
-one_mark : (include : Include) (file : List ℕ) (turns : ℕ) (growth : Growth) (c : ℕ) (rest : List ℕ)
+pub one_mark : (include : Include) (file : List ℕ) (turns : ℕ) (growth : Growth) (c : ℕ) (rest : List ℕ)
     → grown include file (suc turns) growth (c ∷ rest) ≡ (placed file growth.line (mark_at growth (c ∷ rest)) >>= (λ (read : Mark × List ℕ). taken include file read.0 growth >>= (λ (next : Growth). grown include file turns next read.1)))
 unfolding grown
 one_mark include file turns growth c rest = refl
 
-no_marks : (include : Include) (file : List ℕ) (turns : ℕ) (growth : Growth) → grown include file turns growth [] ≡ ended growth
+pub no_marks : (include : Include) (file : List ℕ) (turns : ℕ) (growth : Growth) → grown include file turns growth [] ≡ ended growth
 unfolding grown
 no_marks include file turns growth = refl
 

@@ -9,3 +9,14 @@ pub mod Seen
 pub mod Quoted
 pub mod PlacesLemmas
 pub mod FoundPairs
+pub mod Spellings
+pub mod BareWords
+pub mod SpelledTexts
+pub mod SpelledWords
+pub mod WrittenItems
+pub mod InsideLemmas
+pub mod WrittenFiles
+pub mod WrittenFound
+pub mod InsideFound
+pub mod FilesFound
+pub mod JoinedLines

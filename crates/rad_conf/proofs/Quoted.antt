@@ -23,21 +23,21 @@ unfolding in_single spelled_from
 single_text growth [] out = grind (arith, common_steps)
 single_text growth (c ∷ text) out = grind (arith, common_steps, single_text growth text (out ++ c ∷ []))
 
-front : (xs rest : List ℕ) (c : ℕ) → take (length xs) (xs ++ c ∷ rest) ≡ xs
+pub front : (xs rest : List ℕ) (c : ℕ) → take (length xs) (xs ++ c ∷ rest) ≡ xs
 front [] rest c = refl
 front (x ∷ xs) rest c = ap (λ (ys : List ℕ). x ∷ ys) (front xs rest c)
 
-back : (xs rest : List ℕ) (c : ℕ) → drop (length xs + 1) (xs ++ c ∷ rest) ≡ rest
+pub back : (xs rest : List ℕ) (c : ℕ) → drop (length xs + 1) (xs ++ c ∷ rest) ≡ rest
 back [] rest c = refl
 back (x ∷ xs) rest c = let e : length (x ∷ xs) + 1 ≡ suc (length xs + 1) = omega arith in rw e (back xs rest c)
 
 -- A word between quotes, by where its quote stands and by what it spells.
-quoted : (growth : Growth) (quote : Quote) (how : Spelling) (mark : ℕ) (raw text rest : List ℕ) → quoted_from mark 0 false (raw ++ mark ∷ rest) ≡ Some (length raw) → spelled_from growth how [] Reads raw ≡ Ok text
+pub quoted : (growth : Growth) (quote : Quote) (how : Spelling) (mark : ℕ) (raw text rest : List ℕ) → quoted_from mark 0 false (raw ++ mark ∷ rest) ≡ Some (length raw) → spelled_from growth how [] Reads raw ≡ Ok text
     → quoted_word growth quote how mark (raw ++ mark ∷ rest) ≡ Ok (word quote text, rest)
 unfolding quoted_word
 quoted growth quote how mark raw text rest len spells = rw (len, quoted_word) (rw (front raw rest mark, spells, back raw rest mark) refl)
 
-from_zero : (n : ℕ) (found : Option ℕ) → found ≡ Some (0 + n) → found ≡ Some n
+pub from_zero : (n : ℕ) (found : Option ℕ) → found ≡ Some (0 + n) → found ≡ Some n
 from_zero n found e = let same : 0 + n ≡ n = omega arith in e ∙ ap (λ (m : ℕ). Some m) same
 
 pub reads_single : ReadsSingle

@@ -11,3 +11,7 @@ pub mod Growth
 pub mod Includes
 pub mod Conf
 pub mod Grammar
+pub mod WrittenLines
+pub mod Spelling
+pub mod Inside
+pub mod Written

@@ -20,6 +20,9 @@ mod variable;
 mod word;
 
 pub use fault::ConfFault;
-pub use laws::quoted_words_are_read_back;
+pub use laws::{
+    configurations_are_read_as_they_are_written, lines_are_read_as_they_are_written,
+    quoted_words_are_read_back, words_are_read_as_they_are_spelled,
+};
 pub use reading::{path_of, read_conf};
 pub use tree::{Conf, Item, Node, NodeList, Quote, Word};
