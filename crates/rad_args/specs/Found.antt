@@ -1,8 +1,5 @@
 -- What is found among the items of a command line. This project's own.
-use Rattle.std.specs.Prelude.{ℕ, ◌+◌, ◌*◌, ◌<◌, ◌≤◌, Bool, ◌&&◌, ◌==◌, List, [], ◌∷◌, length, nat_le, nat_lt, Option, Some, None, if◌then◌else◌}
-use Rattle.std.specs.Char.{digit_value, is_digit}
-use Rattle.std.specs.List.{list_all}
-use Rattle.rad_text.specs.Find.{◌>>=◌}
+use Rattle.std.specs.Prelude.{ℕ, ◌==◌, List, [], ◌∷◌, Option, Some, None, if◌then◌else◌}
 use Rattle.rad_args.specs.declared.item.Item.{Item}
 use Rattle.rad_args.specs.declared.item.Item.TheVariants.{Letter, Valued, Plain}
 

@@ -13,11 +13,6 @@ Reads before now (Ok None) found = found ≡ None
 Reads before now (Ok (Some reading)) found = in_front before found ≡ Some (reading, now)
 Reads before now (Err failed) found = Unit {0}
 
--- The same, where nothing is refused.
-abbrev pub Puts : List Item → List Item → Result Reading NoMemory → Reading × List Item → Type 0
-Puts before now (Ok reading) found = (reading, before ++ found.1) ≡ (found.0, now)
-Puts before now (Err failed) found = Unit {0}
-
 -- More items, behind those so far.
 abbrev pub onto : List Item → Option (List Item) → Option (List Item)
 onto items more = option_map (λ (m : List Item). items ++ m) more

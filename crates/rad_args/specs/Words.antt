@@ -41,24 +41,28 @@ valued letter (c ∷ rest) = (Letters, Valued letter (without_equals (c ∷ rest
 abbrev pub in_front : List Item → Option (Reading × List Item) → Option (Reading × List Item)
 in_front before found = option_map (λ (f : Reading × List Item). (f.0, before ++ f.1)) found
 
+-- The last of joined letters, and what follows it in its word; a letter that has no value is refused.
+abbrev pub last_letter : List ℕ → ℕ → List ℕ → Option (Reading × List Item)
+last_letter options letter text = if is_in letter options then Some (valued letter text) else None
+
 -- The letters that are joined behind a hyphen: letters without a value, and one with a value may follow them. Any other
 -- letter is refused.
 unfoldable pub joined : List ℕ → List ℕ → List ℕ → Option (Reading × List Item)
 joined flags options [] = Some (Letters, [])
 joined flags options (c ∷ rest) =
-    if is_in c flags then in_front (Letter c ∷ []) (joined flags options rest)
-    else (if is_in c options then Some (valued c rest) else None)
+    if is_in c flags then in_front (Letter c ∷ []) (joined flags options rest) else last_letter options c rest
+
+-- A word without its first octet.
+abbrev pub behind_first : List ℕ → List ℕ
+behind_first [] = []
+behind_first (c ∷ rest) = rest
 
 -- What a word is where letters may stand: `--` ends the letters, a hyphen with letters behind it is letters, and each other
 -- word is plain, a hyphen alone too.
 unfoldable pub letters_or_plain : List ℕ → List ℕ → List ℕ → Option (Reading × List Item)
 letters_or_plain flags options word =
     if is_value word then Some (Letters, Plain word ∷ [])
-    else (if bytes_eq word (45 ∷ 45 ∷ []) then Some (Plainly, []) else joined flags options (behind_hyphen word))
-  where
-    behind_hyphen : List ℕ → List ℕ
-    behind_hyphen [] = []
-    behind_hyphen (c ∷ rest) = rest
+    else (if bytes_eq word (45 ∷ 45 ∷ []) then Some (Plainly, []) else joined flags options (behind_first word))
 
 -- What a word is by what was read before it. As the value of a letter it must be one; behind `--` it is plain.
 abbrev pub read_word : List ℕ → List ℕ → Reading → List ℕ → Option (Reading × List Item)

@@ -1,6 +1,6 @@
 //! A command line that was read.
 
-ghost use Rattle.std.specs.Prelude.{◌≡◌, map, string_bytes, length, IfOk};
+ghost use Rattle.std.specs.Prelude.{◌≡◌, map, string_bytes, IfOk};
 ghost use Rattle.std.specs.Option.{option_map};
 ghost use Rattle.std.specs.List.{slice_get};
 ghost use Rattle.rad_args.specs.Words.{arguments, read_words, has_letter};
@@ -99,20 +99,7 @@ impl Arguments {
         None
     }
 
-    /// How many plain words there are.
-    pub fn plain_len(&self) -> usize
-        ensures { result ≡ length (plain_words self.now) }
-    {
-        let mut count = 0;
-        for item in &self.items {
-            if matches!(item, Item::Plain(_)) {
-                count += 1;
-            }
-        }
-        count
-    }
-
-    /// The plain word at a position from 0, or none exactly where the position is at least their number.
+    /// The plain word at a position from 0, or none exactly where there are no more.
     pub fn plain(&self, index: usize) -> Option<&[u8]>
         ensures { option_map (λ v. v.now) result ≡ slice_get (plain_words self.now) index }
     {
@@ -120,10 +107,10 @@ impl Arguments {
         let mut rest = self.items.as_slice();
         while let Some((item, after)) = rest.split_first() {
             if let Item::Plain(word) = item {
-                if left == 0 {
-                    return Some(word.as_slice());
+                match left {
+                    0 => return Some(word.as_slice()),
+                    _ => left -= 1,
                 }
-                left -= 1;
             }
             rest = after;
         }

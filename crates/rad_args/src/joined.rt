@@ -1,8 +1,8 @@
 //! Letters that are joined behind one hyphen.
 
-ghost use Rattle.std.specs.Prelude.{◌≡◌};
-ghost use Rattle.rad_args.specs.Words.{is_in, without_equals, valued, joined};
-ghost use Rattle.rad_args.specs.Pushed.{Puts, Reads};
+ghost use Rattle.std.specs.Prelude.{◌≡◌, Some};
+ghost use Rattle.rad_args.specs.Words.{is_in, without_equals, valued, last_letter, joined};
+ghost use Rattle.rad_args.specs.Pushed.{Reads};
 
 use crate::item::Item;
 use crate::reading::Reading;
@@ -27,23 +27,43 @@ fn without_equals(text: &[u8]) -> &[u8]
 }
 
 /// Adds a letter with a value, by what follows it in its word.
+#[tactic(auto, using(crate::proofs::Items::nothing_in_front))]
 fn put_valued(
     alloc: Global,
     items: &mut Vec<Item>,
     letter: u8,
     text: &[u8],
-) -> Result<Reading, NoMemory>
-    ensures { Puts items.old.items items.new.items result (valued letter text.now) }
+) -> Result<Option<Reading>, NoMemory>
+    ensures { Reads items.old.items items.new.items result (Some (valued letter text.now)) }
 {
-    if text.is_empty() {
-        return Ok(Reading::Value(letter));
+    match text {
+        [] => Ok(Some(Reading::Value(letter))),
+        _ => {
+            items.push(Item::Valued(letter, Octets::of(alloc, without_equals(text))?))?;
+            Ok(Some(Reading::Letters))
+        }
     }
-    items.push(Item::Valued(letter, Octets::of(alloc, without_equals(text))?))?;
-    Ok(Reading::Letters)
+}
+
+/// Adds the last of joined letters, which has a value.
+fn put_last(
+    alloc: Global,
+    items: &mut Vec<Item>,
+    options: &[u8],
+    letter: u8,
+    text: &[u8],
+) -> Result<Option<Reading>, NoMemory>
+    ensures { Reads items.old.items items.new.items result (last_letter options.now letter text.now) }
+{
+    if is_in(letter, options) {
+        put_valued(alloc, items, letter, text)
+    } else {
+        Ok(None)
+    }
 }
 
 /// Adds the letters that are joined behind a hyphen.
-#[tactic(auto, unfolding(crate::specs::Words::joined))]
+#[tactic(auto, using(crate::proofs::Items::nothing_in_front, crate::proofs::Items::twice_in_front), unfolding(crate::specs::Words::joined))]
 pub(crate) fn put_joined(
     alloc: Global,
     items: &mut Vec<Item>,
@@ -55,11 +75,8 @@ pub(crate) fn put_joined(
 {
     let mut rest = text;
     while let Some((letter, after)) = rest.split_first() {
-        if is_in(*letter, options) && !is_in(*letter, flags) {
-            return Ok(Some(put_valued(alloc, items, *letter, after)?));
-        }
         if !is_in(*letter, flags) {
-            return Ok(None);
+            return put_last(alloc, items, options, *letter, after);
         }
         items.push(Item::Letter(*letter))?;
         rest = after;

@@ -6,9 +6,11 @@
 mod arguments;
 mod item;
 mod joined;
+mod numbers;
 mod once;
 mod reading;
 mod word;
 
 pub use arguments::Arguments;
 pub use item::Item;
+pub use numbers::number_in;

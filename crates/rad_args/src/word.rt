@@ -22,7 +22,7 @@ fn is_value(word: &[u8]) -> bool
 }
 
 /// Adds what a word is where letters may stand.
-#[tactic(auto, unfolding(crate::specs::Words::letters_or_plain))]
+#[tactic(auto, using(crate::proofs::Items::nothing_in_front), unfolding(crate::specs::Words::letters_or_plain))]
 fn put_letters_or_plain(
     alloc: Global,
     items: &mut Vec<Item>,
@@ -34,7 +34,9 @@ fn put_letters_or_plain(
 {
     match word {
         [b'-', b'-'] => Ok(Some(Reading::Plainly)),
-        [b'-', first, rest @ ..] => put_joined(alloc, items, flags, options, &word[1..]),
+        [b'-', letters @ ..] if !letters.is_empty() => put_joined(
+            alloc, items, flags, options, letters,
+        ),
         _ => {
             items.push(Item::Plain(Octets::of(alloc, word)?))?;
             Ok(Some(Reading::Letters))
