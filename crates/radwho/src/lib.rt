@@ -1,13 +1,17 @@
-// A library with one function.
+//! Who is logged in: the sessions that a log of the server says, as lines.
+//! It has no state; its one model is a run, by its words, the log that it reads and the lines that it prints.
+//! Only the thin program stands above it, which hands in the host's files and standard output.
 #![tactic(auto)]
 
-ghost use Rattle.std.specs.Prelude.{◌≡◌};
-ghost use Rattle.radwho.specs.Echo.{echo_of};
+mod asking;
+mod columns;
+mod escapes;
+mod listing;
+mod printing;
+mod raw;
+mod showing;
+mod status;
+mod top;
+mod wanted;
 
-// The `ensures` clause is the contract: what `echo` returns is `echo_of` of its argument, a definition
-// in `specs/Echo.antt`, which a caller's clause can cite too.
-pub fn echo(x: usize) -> usize
-    ensures { result ≡ echo_of x }
-{
-    x
-}
+pub use top::radwho;

@@ -1,0 +1,3 @@
+pub mod Telling
+pub mod Printings
+pub mod Sessions
