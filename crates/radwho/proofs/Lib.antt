@@ -1,3 +1,4 @@
 pub mod Telling
 pub mod Printings
 pub mod Sessions
+pub mod Logs

@@ -1,5 +1,5 @@
 -- What one write prints of its lines.
-use Rattle.std.proofs.Common.{ℕ, ◌≡◌, ◌≤◌, ◌⊎◌, ◌++◌, take, drop, length, List, [], Option, Some, None, Result, Ok, Err, IsErr, OnOk, inl, inr, refl, ap, sym, ◌∙◌, append-nil, arith}
+use Rattle.std.proofs.Common.{ℕ, take, drop, List, [], Option, Result, Ok, Err, IsErr, OnOk, inl, inr, refl, ap, sym, ◌∙◌, append-nil}
 use Rattle.std.proofs.lemmas.List.{take-append-drop}
 use Rattle.std.proofs.Math.Seq.{drop-length}
 use Rattle.rad_outside.specs.declared.fault.Failed.{Failed}
