@@ -6,6 +6,7 @@
 mod arguments;
 mod item;
 mod joined;
+mod laws;
 mod numbers;
 mod once;
 mod reading;
@@ -13,4 +14,5 @@ mod word;
 
 pub use arguments::Arguments;
 pub use item::Item;
+pub use laws::{letters_are_read_as_they_are_written, values_are_read_as_they_are_written};
 pub use numbers::number_in;

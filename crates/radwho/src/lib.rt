@@ -6,6 +6,7 @@
 mod asking;
 mod columns;
 mod escapes;
+mod laws;
 mod listing;
 mod printing;
 mod raw;
@@ -14,4 +15,5 @@ mod status;
 mod top;
 mod wanted;
 
+pub use laws::fields_stay_apart;
 pub use top::radwho;
