@@ -4,3 +4,7 @@ pub mod Expansions
 pub mod Sides
 pub mod Atoms
 pub mod Tokens
+pub mod Patterns
+pub mod Texts
+pub mod Looks
+pub mod Tests

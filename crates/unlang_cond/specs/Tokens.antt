@@ -1,8 +1,10 @@
 -- A condition as a list of tokens, or its first fault, after unlang(5): where an operand is due, `!`, `(` or an atom stands,
 -- and behind one `&&`, `||` or a `)` that closes. Blanks may stand between any two tokens. Where which fault comes is this
 -- project's own.
-use Rattle.std.specs.Prelude.{ℕ, zero, suc, ◌+◌, ◌-◌, Bool, true, false, ◌&&◌, ◌||◌, ◌==◌, nat_lt, List, [], ◌∷◌, ◌++◌, drop, length, slice_index, Option, Some, None, Result, Ok, Err, if◌then◌else◌}
+use Rattle.std.specs.Prelude.{◌≡◌, ℕ, zero, suc, ◌+◌, ◌-◌, Bool, true, false, ◌&&◌, ◌||◌, ◌==◌, nat_lt, List, [], ◌∷◌, ◌++◌, drop, length, slice_index, Option, Some, None, Result, Ok, Err, if◌then◌else◌}
 use Rattle.rad_text.specs.Read.{◌>>=◌}
+use Rattle.rad_text.specs.declared.read.ReadError.{ReadError}
+use Rattle.rad_text.specs.declared.read.ReadError.TheVariants as errors
 use Rattle.rad_text.specs.Blanks.{after_blanks}
 use Rattle.rad_dict.specs.Definitions.{Definitions}
 use Rattle.unlang_cond.specs.declared.atom.Atom.{Atom}
@@ -69,3 +71,8 @@ read_in (suc turns) depth awaits out (c ∷ rest) dict = elim (token_at awaits d
 -- The tokens of a whole text up to what is wrong first, if anything.
 abbrev pub tokens_of : List ℕ → Definitions → List Token × Option Wrong
 tokens_of text dict = read_in (length text) 0 true [] (after_blanks text) dict
+
+-- Reading stops at what an error says is wrong. Want of memory says nothing.
+abbrev pub StopsAt : ReadError Wrong → Option Wrong → Type 0
+StopsAt errors.NoMemory wrong = ⊥
+StopsAt (errors.Wrong w) wrong = wrong ≡ Some w

@@ -6,10 +6,15 @@
 
 mod atom;
 mod atom_reading;
+mod cutting;
 mod expansion;
 mod fault;
+mod looks;
 mod operator;
+mod patterns;
 mod sides;
+mod testing;
+mod texts;
 mod token_reading;
 mod words;
 
