@@ -1,3 +1,5 @@
 pub mod Turns
 pub mod Digits
 pub mod Located
+pub mod Evaluated
+pub mod Ready

@@ -8,3 +8,8 @@ pub mod Patterns
 pub mod Texts
 pub mod Looks
 pub mod Tests
+pub mod Machine
+pub mod Trees
+pub mod Faults
+pub mod Steps
+pub mod Conditions

@@ -1,5 +1,9 @@
 //! Why a text is no condition.
 
+ghost use Rattle.std.specs.Prelude.{◌≡◌};
+ghost use Rattle.unlang_cond.specs.Faults.{offset_of, fault_of, refusal_of};
+
+use rad_text::ReadError;
 use thiserror::Error;
 
 /// The first fault of a condition, in reading order, with an offset in octets from the text's front; one above
@@ -24,4 +28,31 @@ pub enum CondFault {
 pub enum Wrong {
     BadCondition(usize),
     UnknownAttr(usize),
+}
+
+/// The offset from which on so many octets of a text of this length are left.
+fn offset_of(length: usize, left: usize) -> u32
+    ensures { result ≡ offset_of length left }
+{
+    length.saturating_sub(left).min(4_294_967_295) as u32
+}
+
+/// What is wrong, with its offset in a text of this length.
+pub fn fault_of(length: usize, wrong: Wrong) -> CondFault
+    ensures { result ≡ fault_of length wrong }
+{
+    match wrong {
+        Wrong::BadCondition(left) => CondFault::BadCondition(offset_of(length, left)),
+        Wrong::UnknownAttr(left) => CondFault::UnknownAttr(offset_of(length, left)),
+    }
+}
+
+/// The refusal of a pattern, with its offset in a text of this length.
+pub fn refusal_of(length: usize, error: ReadError<usize>) -> CondFault
+    ensures { result ≡ refusal_of length error }
+{
+    match error {
+        ReadError::Wrong(left) => CondFault::BadPattern(offset_of(length, left)),
+        ReadError::NoMemory => CondFault::NoMemory,
+    }
 }

@@ -6,16 +6,20 @@
 
 mod atom;
 mod atom_reading;
+mod condition;
 mod cutting;
 mod expansion;
 mod fault;
+mod groups;
 mod looks;
 mod operator;
 mod patterns;
 mod sides;
+mod steps;
 mod testing;
 mod texts;
 mod token_reading;
 mod words;
 
+pub use condition::Cond;
 pub use fault::CondFault;
