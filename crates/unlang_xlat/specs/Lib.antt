@@ -1,0 +1,4 @@
+pub mod Spans
+pub mod Words
+pub mod Reading
+pub mod Faults
