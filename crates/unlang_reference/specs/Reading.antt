@@ -1,8 +1,8 @@
 -- The text of a reference, `[list:]Attr[place]`, after unlang(5). Names of lists and attributes are compared without regard
 -- to ASCII case, after dictionary(5); that a number is decimal and below 2^32 is this project's own.
-use Rattle.std.specs.Prelude.{ℕ, suc, ◌&&◌, ◌==◌, List, [], ◌∷◌, take, drop, length, Option, Some, None, Result, Ok, codes, if◌then◌else◌}
-use Rattle.std.specs.Option.{option_map}
-use Rattle.std.specs.Str.{bytes_eq, str_eq_ignore_ascii_case}
+use Rattle.std.specs.Prelude.{ℕ, suc, Bool, false, ◌&&◌, ◌==◌, List, [], ◌∷◌, take, drop, length, Option, Some, None, Result, Ok, codes, if◌then◌else◌}
+use Rattle.std.specs.Option.{option_map, option_and_then}
+use Rattle.std.specs.Str.{str_eq_ignore_ascii_case}
 use Rattle.rad_value.specs.declared.edits.ListName.{ListName}
 use Rattle.rad_value.specs.declared.edits.ListName.TheVariants.{Request, Reply, Control}
 use Rattle.rad_dict.specs.Definitions.{Definitions}
@@ -39,18 +39,27 @@ unfoldable pub name_len : List ℕ → ℕ
 name_len [] = 0
 name_len (c ∷ rest) = if c == 91 then 0 else suc (name_len rest)
 
--- A number behind which the bracket closes.
-abbrev pub nth_of : Option (ℕ × List ℕ) → Option Which
-nth_of None = None
-nth_of (Some number) = if bytes_eq number.1 (codes "]") then Some (Nth number.0) else None
+-- The bracket that closes a place, and nothing behind it.
+abbrev pub is_close : List ℕ → Bool
+is_close [] = false
+is_close (c ∷ []) = c == 93
+is_close (c ∷ d ∷ rest) = false
+
+-- `n]`: the n-th value.
+abbrev pub nth_of : List ℕ → Option Which
+nth_of text = option_and_then (λ (number : ℕ × List ℕ). if is_close number.1 then Some (Nth number.0) else None) (number_at 10 text)
+
+-- A place from behind its first bracket on.
+abbrev pub place_of : List ℕ → Option Which
+place_of [] = nth_of []
+place_of (c ∷ rest) =
+    if c == 42 && is_close rest then Some All
+    else (if c == 35 && is_close rest then Some Count else nth_of (c ∷ rest))
 
 -- Which values are meant behind an attribute's name: the first where no place stands there.
-unfoldable pub which_of : List ℕ → Option Which
+abbrev pub which_of : List ℕ → Option Which
 which_of [] = Some (Nth 0)
-which_of (c ∷ rest) =
-    if bytes_eq (c ∷ rest) (codes "[*]") then Some All
-    else (if bytes_eq (c ∷ rest) (codes "[#]") then Some Count
-    else (if c == 91 then nth_of (number_at 10 rest) else None))
+which_of (c ∷ rest) = if c == 91 then place_of rest else None
 
 -- The reference of a text, or the first that is wrong: the name, then the place.
 unfoldable pub reference_of : List ℕ → Definitions → Result Reference NoReference

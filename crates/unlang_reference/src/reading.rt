@@ -2,7 +2,8 @@
 
 ghost use Rattle.std.specs.Prelude.{◌≡◌, ◌≤◌, length};
 ghost use Rattle.std.specs.Option.{option_map};
-ghost use Rattle.unlang_reference.specs.Reading.{after_prefix, listed, name_len, which_of, reference_of, named_alone};
+ghost use Rattle.std.specs.Str.{str_eq_ignore_ascii_case};
+ghost use Rattle.unlang_reference.specs.Reading.{after_prefix, listed, name_len, is_close, nth_of, place_of, which_of, reference_of, named_alone};
 
 use crate::{Reference, Which};
 use rad_dict::Dict;
@@ -19,13 +20,19 @@ pub enum NoReference {
     BadPlace,
 }
 
+/// Whether two texts are one, in any case of their ASCII letters.
+fn is_same(one: &[u8], other: &[u8]) -> bool
+    ensures { result ≡ str_eq_ignore_ascii_case one.now other.now }
+{
+    one.eq_ignore_ascii_case(other)
+}
+
 /// What follows the prefix, where the text begins with it, in any case of its ASCII letters.
-#[tactic(auto, unfolding(crate::specs::Reading::after_prefix))]
 fn after_prefix<'a>(prefix: &[u8], text: &'a [u8]) -> Option<&'a [u8]>
     ensures { option_map (λ rest. rest.now) result ≡ after_prefix prefix.now text.now }
 {
-    let (front, rest) = text.split_at(text.len().min(prefix.len()));
-    if front.eq_ignore_ascii_case(prefix) {
+    let (front, rest) = text.split_at(prefix.len().min(text.len()));
+    if is_same(front, prefix) {
         Some(rest)
     } else {
         None
@@ -68,19 +75,44 @@ fn name_len(text: &[u8]) -> usize
     len
 }
 
+/// Whether a text is the bracket that closes a place.
+fn is_close(text: &[u8]) -> bool
+    ensures { result ≡ is_close text.now }
+{
+    matches!(text, [b']'])
+}
+
+/// `n]`
+fn nth_of(text: &[u8]) -> Option<Which>
+    ensures { result ≡ nth_of text.now }
+{
+    let (number, rest) = number_at(10, text)?;
+    if is_close(rest) {
+        Some(Which::Nth(number))
+    } else {
+        None
+    }
+}
+
+/// A place from behind its first bracket on.
+fn place_of(text: &[u8]) -> Option<Which>
+    ensures { result ≡ place_of text.now }
+{
+    match text {
+        [b'*', rest @ ..] if is_close(rest) => Some(Which::All),
+        [b'#', rest @ ..] if is_close(rest) => Some(Which::Count),
+        _ => nth_of(text),
+    }
+}
+
 /// Which values the text behind an attribute's name means.
-#[tactic(auto, unfolding(crate::specs::Reading::which_of))]
 fn which_of(text: &[u8]) -> Option<Which>
     ensures { result ≡ which_of text.now }
 {
     match text {
         [] => Some(Which::Nth(0)),
-        b"[*]" => Some(Which::All),
-        b"[#]" => Some(Which::Count),
-        [_, digits @ ..] => match number_at(10, digits)? {
-            (number, b"]") => Some(Which::Nth(number)),
-            _ => None,
-        },
+        [b'[', rest @ ..] => place_of(rest),
+        _ => None,
     }
 }
 
