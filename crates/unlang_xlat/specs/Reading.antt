@@ -17,6 +17,10 @@ use Rattle.unlang_xlat.specs.Words.{date_part, function_named, is_list, referenc
 abbrev pub Reader : Type 0
 Reader = List ℕ → Read Part Wrong
 
+-- A `%` stands at the front.
+abbrev pub begins_part : List ℕ → Bool
+begins_part text = slice_index text 0 == 37
+
 -- The part whose `%` stands at the front: `%%`, a part in braces, or a letter.
 unfoldable pub part_at : Reader → Reader
 part_at braced [] = Err (BadExpansion 0)
@@ -52,14 +56,14 @@ before one more = more >>= λ parts. Ok (one ∷ parts.0, parts.1)
 -- The parts up to the brace that closes the open part, or up to the text's end where none is open. Each part takes an octet at
 -- least, so that as many turns as the text has octets are enough.
 unfoldable pub parts_in : Reader → Option ℕ → ℕ → List ℕ → Read (List Part) Wrong
-parts_in braced open turns [] = ended open
-parts_in braced open zero (c ∷ rest) = Err (BadExpansion 0)
-parts_in braced open (suc turns) (c ∷ rest) =
-    if closes open c then Ok ([], rest) else (piece_at braced (is_some open) (c ∷ rest) >>= λ one. before one.0 (parts_in braced open turns one.1))
+parts_in braced outer turns [] = ended outer
+parts_in braced outer zero (c ∷ rest) = Err (BadExpansion 0)
+parts_in braced outer (suc turns) (c ∷ rest) =
+    if closes outer c then Ok ([], rest) else (piece_at braced (is_some outer) (c ∷ rest) >>= λ one. before one.0 (parts_in braced outer turns one.1))
 
 -- The second side of an alternative: a part or plain text, which may be empty.
 unfoldable pub second_at : Reader → Reader
-second_at braced text = if slice_index text 0 == 37 then part_at braced text else plain_of (plain_len true text) text
+second_at braced text = if begins_part text then part_at braced text else plain_of (plain_len true text) text
 
 -- `%{A:-B}` from its first part on: of the whole so many octets are left.
 unfoldable pub alternative_at : Reader → ℕ → Reader
@@ -99,14 +103,14 @@ named_at braced left body dict = elim (drop (len_before 58 125 body) body) [
       else call_at braced left (take (len_before 58 125 body) body) rest)
 ]
 
--- A part in braces, from behind the brace on.
-abbrev pub behind_brace : Reader → Definitions → ℕ → List ℕ → Read Part Wrong
-behind_brace braced dict left body = if slice_index body 0 == 37 then alternative_at braced left body else named_at braced left body dict
+-- A part in braces, from behind the brace on: of the whole so many octets are left.
+abbrev pub body_at : Reader → Definitions → ℕ → List ℕ → Read Part Wrong
+body_at braced dict left body = if begins_part body then alternative_at braced left body else named_at braced left body dict
 
 -- A part in braces, from its `%` on, with so many levels left, its own among them.
 unfoldable pub braced : Definitions → ℕ → Reader
 braced dict zero text = Err (BadExpansion (length text))
-braced dict (suc levels) text = behind_brace (braced dict levels) dict (length text) (drop 2 text)
+braced dict (suc levels) text = body_at (braced dict levels) dict (length text) (drop 2 text)
 
 -- The parts of a whole text, with 32 levels of braces.
 abbrev pub parts_of : List ℕ → Definitions → Result (List Part) Wrong

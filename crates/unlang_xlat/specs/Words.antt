@@ -47,9 +47,13 @@ digit_alone greatest [] = None
 digit_alone greatest (c ∷ []) = if is_in_range 48 (48 + greatest) c then Some (c - 48) else None
 digit_alone greatest (c ∷ d ∷ rest) = None
 
+-- What stands before a loop's number, case aside.
+unfoldable pub is_loop : List ℕ → Bool
+is_loop front = str_eq_ignore_ascii_case front (codes "Foreach-Variable-")
+
 -- The loop that a word names, from 0 to 7.
 unfoldable pub loop_of : List ℕ → Option ℕ
-loop_of word = if str_eq_ignore_ascii_case (take 17 word) (codes "Foreach-Variable-") then digit_alone 7 (drop 17 word) else None
+loop_of word = if is_loop (take 17 word) then digit_alone 7 (drop 17 word) else None
 
 -- The part of a word that stands for no attribute: a capture from 0 to 8, the packet's source, or a loop.
 unfoldable pub fixed_part : List ℕ → Option Part

@@ -9,5 +9,4 @@ mod words;
 
 pub use fault::XlatFault;
 pub use part::{DatePart, Function, Part};
-pub use rad_dates::{Civil, date_of, stamp};
 pub use unlang_reference::Reference;

@@ -1,9 +1,9 @@
 //! Texts of expansions that are read. A part within parts is read by the same functions with a level less to go, so that no
 //! text leads deeper than the levels that are given.
 
-ghost use Rattle.std.specs.Prelude.{◌≡◌, ◌<◌, ◌≤◌, length, IfOk};
+ghost use Rattle.std.specs.Prelude.{◌≡◌, ◌+◌, ◌<◌, ◌≤◌, length, drop, IfOk};
 ghost use Rattle.rad_text.specs.Read.{Gives};
-ghost use Rattle.unlang_xlat.specs.Reading.{part_at, piece_at, second_at, closes, ended, parts_in, listed_at, call_at, named_at, alternative_at, braced};
+ghost use Rattle.unlang_xlat.specs.Reading.{begins_part, part_at, plain_of, alone_at, piece_at, second_at, closes, ended, parts_in, listed_at, call_at, named_at, alternative_at, braced};
 
 use crate::fault::Wrong;
 use crate::part::Part;
@@ -68,37 +68,53 @@ fn piece_at<'a>(
     }
 }
 
-/// Whether the octet closes the part of which so many octets are left, where one is open.
-fn closes(open: Option<usize>, octet: u8) -> bool
-    ensures { result ≡ closes open octet }
+/// Whether a `%` stands at the front.
+fn begins_part(text: &[u8]) -> bool
+    ensures { result ≡ begins_part text.now }
 {
-    open.is_some() && octet == b'}'
+    text.first() == Some(&b'%')
 }
 
-/// The parts up to the brace that closes the open part, or up to the text's end where none is open; and what follows them.
+/// What follows the `%` and the brace at the front.
+fn behind_brace(text: &[u8]) -> &[u8]
+    ensures rest { result.now ≡ drop 2 text.now }
+    ensures shorter { length result.now ≤ length text.now }
+{
+    let (_, body) = text.split_at(text.len().min(2));
+    body
+}
+
+/// Whether the octet closes the part of which so many octets are left, where one is open.
+fn closes(outer: Option<usize>, octet: u8) -> bool
+    ensures { result ≡ closes outer octet }
+{
+    outer.is_some() && octet == b'}'
+}
+
+/// The parts up to the brace that closes the part they stand in, or up to the text's end where they stand in none; and what follows them.
 #[cycle(reading)]
 #[tactic(auto, unfolding(crate::specs::Reading::parts_in))]
 pub fn parts_in<'a>(
     alloc: Global,
     levels: u32,
-    open: Option<usize>,
+    outer: Option<usize>,
     text: &'a [u8],
     dict: &Dict,
 ) -> Result<(Items<Part>, &'a [u8]), ReadError<Wrong>>
-    ensures exact { Gives (λ x. (x.0, x.1.now)) result (parts_in (braced dict.now levels) open (length text.now) text.now) }
+    ensures exact { Gives (λ x. (x.0, x.1.now)) result (parts_in (braced dict.now levels) outer (length text.now) text.now) }
     ensures shorter { IfOk result (λ x. length x.1.now ≤ length text.now) }
 {
     let mut parts = Items::new(alloc);
     let mut rest = text;
     while let Some((octet, after)) = rest.split_first() {
-        if closes(open, *octet) {
+        if closes(outer, *octet) {
             return Ok((parts, after));
         }
-        let (part, more) = piece_at(alloc, levels, open.is_some(), rest, dict)?;
+        let (part, more) = piece_at(alloc, levels, outer.is_some(), rest, dict)?;
         parts.push(part)?;
         rest = more;
     }
-    match open {
+    match outer {
         None => Ok((parts, rest)),
         Some(left) => Err(ReadError::Wrong(Wrong::BadExpansion(left))),
     }
@@ -116,7 +132,7 @@ fn second_at<'a>(
     ensures exact { Gives (λ x. (x.0, x.1.now)) result (second_at (braced dict.now levels) text.now) }
     ensures shorter { IfOk result (λ x. length x.1.now ≤ length text.now) }
 {
-    if text.first() == Some(&b'%') {
+    if begins_part(text) {
         return part_at(alloc, levels, text, dict);
     }
     plain_of(alloc, plain_len(true, text), text)
@@ -235,8 +251,8 @@ fn braced<'a>(
     if levels == 0 {
         return Err(ReadError::Wrong(Wrong::BadExpansion(text.len())));
     }
-    let (_, body) = text.split_at(text.len().min(2));
-    if body.first() == Some(&b'%') {
+    let body = behind_brace(text);
+    if begins_part(body) {
         alternative_at(alloc, levels - 1, text.len(), body, dict)
     } else {
         named_at(alloc, levels - 1, text.len(), body, dict)

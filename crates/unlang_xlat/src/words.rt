@@ -1,7 +1,7 @@
 //! The words that stand behind `%` and in braces.
 
 ghost use Rattle.std.specs.Prelude.{◌≡◌, ◌≤◌};
-ghost use Rattle.unlang_xlat.specs.Words.{date_part, function_named, is_list, digit_alone, loop_of, fixed_part, reference_error, word_part, referenced};
+ghost use Rattle.unlang_xlat.specs.Words.{date_part, function_named, is_list, digit_alone, is_loop, loop_of, fixed_part, reference_error, word_part, referenced};
 ghost use Rattle.rad_text.specs.Read.{Gives};
 
 use crate::fault::Wrong;
@@ -66,13 +66,21 @@ fn digit_alone(greatest: u8, text: &[u8]) -> Option<u8>
     }
 }
 
+/// Whether a text is what stands before a loop's number, in any case of its letters.
+#[tactic(auto, unfolding(crate::specs::Words::is_loop))]
+fn is_loop(front: &[u8]) -> bool
+    ensures { result ≡ is_loop front.now }
+{
+    front.eq_ignore_ascii_case(b"Foreach-Variable-")
+}
+
 /// The loop that a word names.
 #[tactic(auto, unfolding(crate::specs::Words::loop_of))]
 fn loop_of(word: &[u8]) -> Option<u8>
     ensures { result ≡ loop_of word.now }
 {
     let (front, digit) = word.split_at(word.len().min(17));
-    if front.eq_ignore_ascii_case(b"Foreach-Variable-") {
+    if is_loop(front) {
         digit_alone(7, digit)
     } else {
         None

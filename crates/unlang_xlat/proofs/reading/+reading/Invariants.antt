@@ -28,11 +28,11 @@ decreases-alternative_at l = 8 * l.levels + 4
 abbrev pub decreases-named_at : goal.decreases-named_at
 decreases-named_at l = 8 * l.levels + 5
 
-abbrev pub invariant-parts_in-loop-after : goal.invariant-parts_in-loop-after
-invariant-parts_in-loop-after l = record {
-  parts : Enough (braced l.dict l.levels) l.open l.parts l.rest (parts_in (braced l.dict l.levels) l.open (length l.text) l.text);
+abbrev pub invariant-parts_in-loop-octet : goal.invariant-parts_in-loop-octet
+invariant-parts_in-loop-octet l = record {
+  parts : Enough (braced l.dict l.levels) l.outer l.parts l.rest (parts_in (braced l.dict l.levels) l.outer (length l.text) l.text);
   shorter : length l.rest ≤ length l.text;
 }
 
-abbrev pub decreases-parts_in-loop-after : goal.decreases-parts_in-loop-after
-decreases-parts_in-loop-after l = length l.rest
+abbrev pub decreases-parts_in-loop-octet : goal.decreases-parts_in-loop-octet
+decreases-parts_in-loop-octet l = length l.rest
