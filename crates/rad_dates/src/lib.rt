@@ -11,5 +11,5 @@ mod texts;
 
 pub use civil::{Civil, date_of};
 pub use laws::{dates_are_of_their_seconds, weekdays_go_round};
-pub use padded::{put_digits, put_left, put_right};
+pub use padded::{put_digits, put_left, put_number, put_right};
 pub use texts::{put_date_time, put_stamp, stamp};

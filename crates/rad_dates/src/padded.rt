@@ -1,6 +1,7 @@
 //! Texts that are filled up to a width.
 
 ghost use Rattle.std.specs.Prelude.{◌≡◌, ◌++◌, replicate, OnOk};
+ghost use Rattle.std.specs.Fmt.{decimal};
 ghost use Rattle.rad_dates.specs.Padded.{right_in, left_in, digits_in};
 
 use rad_outside::NoMemory;
@@ -33,6 +34,20 @@ pub fn put_left(text: &mut Vec<u8>, width: usize, word: &[u8]) -> Result<(), NoM
     put_often(text, b' ', width.saturating_sub(word.len()))
 }
 
+/// Adds a number in decimal digits at the right of a width; a longer one stands whole.
+pub fn put_number(
+    alloc: Global,
+    text: &mut Vec<u8>,
+    fill: u8,
+    width: usize,
+    number: u64,
+) -> Result<(), NoMemory>
+    ensures { OnOk result (text.new.items ≡ text.old.items ++ right_in fill width (decimal number)) }
+{
+    let digits = number.to_string(alloc)?;
+    put_right(text, fill, width, digits.as_bytes())
+}
+
 /// Adds a number in decimal digits, with zeros in front up to a width.
 pub fn put_digits(
     alloc: Global,
@@ -42,6 +57,5 @@ pub fn put_digits(
 ) -> Result<(), NoMemory>
     ensures { OnOk result (text.new.items ≡ text.old.items ++ digits_in width number) }
 {
-    let digits = number.to_string(alloc)?;
-    put_right(text, b'0', width, digits.as_bytes())
+    put_number(alloc, text, b'0', width, number)
 }
