@@ -2,3 +2,5 @@ pub mod Spans
 pub mod Words
 pub mod Reading
 pub mod Faults
+pub mod Texts
+pub mod Paths
