@@ -6,9 +6,7 @@ ghost use Rattle.unlang_xlat.specs.Texts.{cut, part_text, expanded};
 
 use crate::dates::put_date;
 use crate::part::Part;
-use crate::values::{
-    capture_at, loop_at, put, put_called, put_capture, put_loop, put_reference,
-};
+use crate::values::{capture_at, loop_at, put, put_called, put_capture, put_loop, put_reference};
 use rad_dict::Dict;
 use rad_outside::NoMemory;
 use rad_text::put_dotted;
