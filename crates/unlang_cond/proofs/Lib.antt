@@ -3,3 +3,4 @@ pub mod Digits
 pub mod Located
 pub mod Evaluated
 pub mod Ready
+pub mod Expanding

@@ -20,10 +20,9 @@ use Rattle.unlang_cond.specs.declared.atom.Side.{Side}
 use Rattle.unlang_cond.specs.declared.atom.Side.TheVariants as side
 use Rattle.unlang_cond.specs.declared.atom.Operand.{Operand}
 use Rattle.unlang_cond.specs.declared.atom.Operand.TheVariants as operand
-use Rattle.unlang_cond.specs.declared.expansion.Expansion.{Expansion}
 use Rattle.unlang_cond.specs.declared.fault.Wrong.{Wrong}
 use Rattle.unlang_cond.specs.declared.fault.Wrong.TheVariants.{BadCondition, UnknownAttr}
-use Rattle.unlang_cond.specs.Expansions.{expansion_of}
+use Rattle.unlang_cond.specs.Expansions.{Expansion, expansion_of}
 use Rattle.unlang_cond.specs.Words.{bare_word, after_word, written}
 
 -- A quote stands at the front.

@@ -1,10 +1,10 @@
 //! What a condition is made of.
 
-use crate::expansion::Expansion;
 use rad_outside::Octets;
 use rad_value::{Cmp, Value};
 use rad_words::Code;
 use unlang_reference::Reference;
+use unlang_xlat::Xlat;
 
 /// A side of a comparison.
 #[derive(Drop)]
@@ -13,7 +13,7 @@ pub enum Side {
     /// A bare word that is no attribute's name, or a single-quoted text.
     Literal(Octets),
     /// A double-quoted text.
-    Expansion(Expansion),
+    Expansion(Xlat),
 }
 
 /// What a reference is compared with.
@@ -23,7 +23,7 @@ pub enum Operand {
     /// A literal, read as a value of the left side's attribute.
     Value(Value),
     /// A double-quoted text, to be read so each time.
-    Expansion(Expansion),
+    Expansion(Xlat),
 }
 
 /// A pattern as it is written between slashes.

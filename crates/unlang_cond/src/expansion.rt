@@ -2,7 +2,8 @@
 
 ghost use Rattle.std.specs.Prelude.{◌≡◌, IfOk};
 ghost use Rattle.rad_text.specs.Read.{Gives};
-ghost use Rattle.unlang_cond.specs.Expansions.{expansion_of, expansion_text};
+ghost use Rattle.rad_value.specs.Scope.{IsInTime};
+ghost use Rattle.unlang_cond.specs.Expansions.{error_of, expansion_of, expansion_text};
 
 use crate::fault::Wrong;
 use rad_dict::Dict;
@@ -10,34 +11,45 @@ use rad_outside::{NoMemory, Octets};
 use rad_text::ReadError;
 use rad_value::Scope;
 use std::alloc::Global;
+use unlang_xlat::{Xlat, XlatFault};
 
-/// The expansion of a double-quoted text.
-#[derive(Drop)]
-pub struct Expansion {
-    pub text: Octets,
+/// What an expansion's fault is in a condition, where its quote has so many octets from it on.
+fn error_of(fault: XlatFault, left: usize) -> ReadError<Wrong>
+    ensures { result ≡ error_of fault left }
+{
+    match fault {
+        XlatFault::UnknownAttr(_) => ReadError::Wrong(Wrong::UnknownAttr(left)),
+        XlatFault::BadExpansion(_) | XlatFault::UnknownFunction(_) => {
+            ReadError::Wrong(Wrong::BadCondition(left))
+        }
+        XlatFault::NoMemory => ReadError::NoMemory,
+    }
 }
 
-/// The expansion of a text whose first quote has so many octets from it on.
+/// The expansion of a double-quoted text, whose quote has so many octets from it on.
 pub fn expansion_of(
     alloc: Global,
     text: &[u8],
     left: usize,
-    _dict: &Dict,
-) -> Result<Expansion, ReadError<Wrong>>
-    ensures { Gives (λ x. x) result (expansion_of text.now left _dict.now) }
+    dict: &Dict,
+) -> Result<Xlat, ReadError<Wrong>>
+    ensures { Gives (λ x. x) result (expansion_of text.now left dict.now) }
 {
-    let text = Octets::of(alloc, text)?;
-    Ok(Expansion { text })
+    match Xlat::parse(alloc, text, dict) {
+        Ok(expansion) => Ok(expansion),
+        Err(fault) => Err(error_of(fault, left)),
+    }
 }
 
 /// The text of an expansion in a scope.
 pub fn expansion_text(
     alloc: Global,
-    expansion: &Expansion,
-    _scope: &Scope,
-    _dict: &Dict,
+    expansion: &Xlat,
+    scope: &Scope,
+    dict: &Dict,
 ) -> Result<Octets, NoMemory>
-    ensures { IfOk result (λ text. text ≡ expansion_text expansion.now _scope.now _dict.now) }
+    requires { IsInTime scope.now.moment }
+    ensures { IfOk result (λ text. text ≡ expansion_text expansion.now scope.now dict.now) }
 {
-    Octets::of(alloc, expansion.text.as_slice())
+    expansion.expand(alloc, scope, dict)
 }

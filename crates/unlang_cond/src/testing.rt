@@ -7,7 +7,7 @@ ghost use Rattle.unlang_reference.specs.Values.{values_of};
 ghost use Rattle.unlang_cond.specs.Tests.{is_code, side_text, is_present, operand_values, one_holds, values_hold, both_hold, look_in, test, OnlyCaptures};
 
 use crate::atom::{Atom, Operand, Side};
-use crate::expansion::{Expansion, expansion_text};
+use crate::expansion::expansion_text;
 use crate::looks::look;
 use crate::sides::value_read;
 use crate::texts::texts_hold;
@@ -19,6 +19,7 @@ use rad_words::Code;
 use regex::bytes::Regex;
 use std::alloc::Global;
 use unlang_reference::Reference;
+use unlang_xlat::Xlat;
 
 /// Whether the last code is this one.
 fn is_code(last: Option<Code>, code: Code) -> bool
@@ -73,7 +74,7 @@ fn is_present(alloc: Global, side: &Side, scope: &Scope, dict: &Dict) -> Result<
 fn expansion_values(
     alloc: Global,
     reference: Reference,
-    expansion: &Expansion,
+    expansion: &Xlat,
     scope: &Scope,
     dict: &Dict,
 ) -> Result<Vec<Value>, NoMemory>
