@@ -47,12 +47,7 @@ fn nested(alloc: Global, setting: &Setting, condition: &[u8]) -> Result<Vec<u8>,
 }
 
 /// Whether the condition holds, and the captures then.
-fn held(
-    alloc: Global,
-    cond: &Cond,
-    mut scope: Scope,
-    dict: &Dict,
-) -> Result<Vec<u8>, NoMemory> {
+fn held(alloc: Global, cond: &Cond, mut scope: Scope, dict: &Dict) -> Result<Vec<u8>, NoMemory> {
     if scope.moment > 250_000_000_000 {
         return said(alloc, b"the moment is too late");
     }

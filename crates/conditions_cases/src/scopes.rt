@@ -115,10 +115,22 @@ fn surround(alloc: Global, setting: &mut Setting, part: &[u8]) -> Result<(), NoS
 /// Takes a part of what else there is.
 fn take(alloc: Global, setting: &mut Setting, part: &[u8], dict: &Dict) -> Result<(), NoScope> {
     if let Some(pairs) = after_word(part, b"reply") {
-        return put(alloc, &mut setting.scope.lists, ListName::Reply, pairs, dict);
+        return put(
+            alloc,
+            &mut setting.scope.lists,
+            ListName::Reply,
+            pairs,
+            dict,
+        );
     }
     if let Some(pairs) = after_word(part, b"control") {
-        return put(alloc, &mut setting.scope.lists, ListName::Control, pairs, dict);
+        return put(
+            alloc,
+            &mut setting.scope.lists,
+            ListName::Control,
+            pairs,
+            dict,
+        );
     }
     if let Some(name) = after_word(part, b"last") {
         setting.scope.last = Some(code_of(name)?);
@@ -128,7 +140,11 @@ fn take(alloc: Global, setting: &mut Setting, part: &[u8], dict: &Dict) -> Resul
         setting.scope.captures[0] = Some(Octets::of(alloc, text)?);
         return Ok(());
     }
-    surround(alloc, setting, after_word(part, b"nested").ok_or(NoScope::Misspelt)?)
+    surround(
+        alloc,
+        setting,
+        after_word(part, b"nested").ok_or(NoScope::Misspelt)?,
+    )
 }
 
 /// The setting of two cells.

@@ -43,9 +43,10 @@ module _ (dict : Definitions) where
   -- What the evaluation has come to where these groups were read.
   abbrev pub evaluated : List Branch → Scope → List Group × Scope
   evaluated [] s = ([], s)
-  evaluated (g ∷ outer) s =
-      (group (within (around (evaluated outer s).0) g.before g.chain (evaluated outer s).1).0 g.negated ∷ (evaluated outer s).0,
-       (within (around (evaluated outer s).0) g.before g.chain (evaluated outer s).1).1)
+  evaluated (g ∷ outer) s = (
+    group (within (around (evaluated outer s).0) g.before g.chain (evaluated outer s).1).0 g.negated ∷ (evaluated outer s).0,
+    (within (around (evaluated outer s).0) g.before g.chain (evaluated outer s).1).1,
+  )
 
   one_operand : (negated : Bool) (t : Tree) (s : Scope) → chain_of (Some (negating negated t)) s ≡ (settled negated (holds t s dict).0, (holds t s dict).1)
   one_operand true t s = by (holds t s dict).0 where
@@ -124,10 +125,10 @@ module _ (dict : Definitions) where
   next_alternative (Some Going) before chain s =
       ap (λ (r : Bool × Scope). (Some (next r.0 r.1).0, (next r.0 r.1).1)) (group_value before chain s)
       ∙ by (group_run before chain s).0 (group_run before chain s).1 where
-    by : (q : Progress) (x : Scope) → ◌≡◌ {A = Option Progress × Scope} (Some (next (is_met (Some q)) x).0, (next (is_met (Some q)) x).1) (alternative (Some q), x)
-    by Met x = refl
-    by Failed x = refl
-    by Going x = refl
+        by : (q : Progress) (x : Scope) → ◌≡◌ {A = Option Progress × Scope} (Some (next (is_met (Some q)) x).0, (next (is_met (Some q)) x).1) (alternative (Some q), x)
+        by Met x = refl
+        by Failed x = refl
+        by Going x = refl
 
   -- A closed group's value is taken as an operand's.
   closed_group : (p : Option Progress) (negated : Bool) (before chain : Option Tree) (s : Scope)

@@ -24,7 +24,7 @@ module _ (regex : Regex) (text : List ℕ) (m : Match) (locations : CaptureLocat
   unfolding group_span
   one_group n count = rw (← count)
       ((elim (nat_lt n (location_count locations)) as (λ b. nat_lt n (location_count locations) ≡ b
-        → cond b (option_and_then (cut_out text) (location locations n)) None ≡ option_and_then (cut_out text) (cond b (span_of m n) None)) [
+      → cond b (option_and_then (cut_out text) (location locations n)) None ≡ option_and_then (cut_out text) (cond b (span_of m n) None)) [
         | true ↦ λ e. ap (option_and_then (cut_out text)) (inner n (ltb-true n (location_count locations) e))
         | false ↦ λ e. refl
       ]) refl)

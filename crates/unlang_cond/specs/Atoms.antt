@@ -77,11 +77,14 @@ unfoldable pub pattern_at : List ℕ → Result (Pattern × List ℕ) Wrong
 pattern_at text =
     if slice_index text 0 == 47 then (elim (quoted_len 47 (drop 1 text)) [
       | None ↦ Err (BadCondition (length text))
-      | Some len ↦ Ok (record {
+      | Some len ↦ Ok (
+        record {
           source = take len (drop 1 text);
           insensitive = (flag_at (drop (len + 1) (drop 1 text))).0;
           left = length text;
-        }, (flag_at (drop (len + 1) (drop 1 text))).1)
+        },
+        (flag_at (drop (len + 1) (drop 1 text))).1,
+      )
     ])
     else Err (BadCondition (length text))
 

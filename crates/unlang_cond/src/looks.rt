@@ -44,11 +44,7 @@ fn located(
 }
 
 /// What the first nine groups span.
-fn captured(
-    alloc: Global,
-    locations: &CaptureLocations,
-    text: &[u8],
-) -> Result<Captures, NoMemory>
+fn captured(alloc: Global, locations: &CaptureLocations, text: &[u8]) -> Result<Captures, NoMemory>
     ensures { IfOk result (λ captures. captures ≡ all_located locations.now text.now) }
 {
     Ok([

@@ -92,12 +92,7 @@ pub fn referred(word: &[u8], left: usize, dict: &Dict) -> Result<Reference, Read
 }
 
 /// What a bare word on the right side is, from which on so many octets are left.
-fn bare_side(
-    alloc: Global,
-    word: &[u8],
-    left: usize,
-    dict: &Dict,
-) -> Result<Side, ReadError<Wrong>>
+fn bare_side(alloc: Global, word: &[u8], left: usize, dict: &Dict) -> Result<Side, ReadError<Wrong>>
     ensures { Gives (λ x. x) result (bare_side word.now left dict.now) }
 {
     match word {

@@ -8,7 +8,7 @@ loop-token-preserved c =
     let popped : c.loop-token.unread.items ≡ c.pop.new.self.items ++ c.in-Some.token ∷ [] = c.in-Some.ensures.items in
     record {
       same = rw c.in_ok-push-in-Ok.ensures.items
-        (one_ready c.loop-token.steps.items c.loop-token.unread.items c.pop.new.self.items c.in-Some.token c.in-Ok.step popped c.in-Ok.ensures.ready ∙ c.loop-token.invariant.same);
+          (one_ready c.loop-token.steps.items c.loop-token.unread.items c.pop.new.self.items c.in-Some.token c.in-Ok.step popped c.in-Ok.ensures.ready ∙ c.loop-token.invariant.same);
       ready = rw c.in_ok-push-in-Ok.ensures.items (all_ready c.loop-token.steps.items c.in-Some.token c.in-Ok.step c.loop-token.invariant.ready c.in-Ok.ensures.ready);
     }
 

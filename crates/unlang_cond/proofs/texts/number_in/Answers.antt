@@ -17,7 +17,7 @@ overflow_mul-number c =
     let small : digit_value c.in-Some.octet.now < 10 = ltb-true (digit_value c.in-Some.octet.now) 10 digit in
     let one : length c.loop-octet.rest.now ≡ suc (length c.in-Some.after.now) = ap length c.in-Some.ensures.cases.0 in
     let fits = one_more_digit (length c.args.text.now) (length c.loop-octet.rest.now) (length c.in-Some.after.now) c.loop-octet.number (digit_value c.in-Some.octet.now)
-      c.loop-octet.invariant.short c.loop-octet.invariant.shorter one c.loop-octet.invariant.small small in
+    c.loop-octet.invariant.short c.loop-octet.invariant.shorter one c.loop-octet.invariant.small small in
     omega (arith, fits.1)
 
 pub overflow_add-number : goal.overflow_add-number
@@ -26,7 +26,7 @@ overflow_add-number c =
     let small : digit_value c.in-Some.octet.now < 10 = ltb-true (digit_value c.in-Some.octet.now) 10 digit in
     let one : length c.loop-octet.rest.now ≡ suc (length c.in-Some.after.now) = ap length c.in-Some.ensures.cases.0 in
     let fits = one_more_digit (length c.args.text.now) (length c.loop-octet.rest.now) (length c.in-Some.after.now) c.loop-octet.number (digit_value c.in-Some.octet.now)
-      c.loop-octet.invariant.short c.loop-octet.invariant.shorter one c.loop-octet.invariant.small small in
+    c.loop-octet.invariant.short c.loop-octet.invariant.shorter one c.loop-octet.invariant.small small in
     let value : c.from.result ≡ digit_value c.in-Some.octet.now = c.from.ensures ∙ c.digit_value.ensures in
     rw value (omega (arith, fits.1))
 
@@ -37,7 +37,7 @@ loop-octet-preserved c =
     let small : digit_value c.in-Some.octet.now < 10 = ltb-true (digit_value c.in-Some.octet.now) 10 digit in
     let one : length c.loop-octet.rest.now ≡ suc (length c.in-Some.after.now) = ap length c.in-Some.ensures.cases.0 in
     let fits = one_more_digit (length c.args.text.now) (length c.loop-octet.rest.now) (length c.in-Some.after.now) c.loop-octet.number (digit_value c.in-Some.octet.now)
-      c.loop-octet.invariant.short c.loop-octet.invariant.shorter one c.loop-octet.invariant.small small in
+    c.loop-octet.invariant.short c.loop-octet.invariant.shorter one c.loop-octet.invariant.small small in
     record {
       so_far = goes_on c.args.text.now c.loop-octet.rest.now c.in-Some.after.now c.loop-octet.number c.in-Some.octet.now c.from.result c.in-Some.ensures.cases.0 digit value c.loop-octet.invariant.so_far;
       shorter = omega arith;

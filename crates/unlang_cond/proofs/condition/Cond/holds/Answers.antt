@@ -10,12 +10,12 @@ pub loop-step-preserved : goal.loop-step-preserved
 loop-step-preserved c =
     let lt : c.loop-step.step-index < length c.args.self.now.steps.items = omega (arith, ap length c.deref-step-items.ensures.value) in
     let at : c.step-item.result ≡ get_or c.args.self.now.steps.items c.loop-step.step-index c.step-item.result =
-      c.step-item.is ∙ ap (λ (l : List Step). get_or l c.loop-step.step-index c.step-item.result) c.deref-step-items.ensures.value in
+    c.step-item.is ∙ ap (λ (l : List Step). get_or l c.loop-step.step-index c.step-item.result) c.deref-step-items.ensures.value in
     record {
       so_far =
-        ap (λ (r : List Group × Scope). run (drop (c.loop-step.step-index + 1) c.args.self.now.steps.items) r.0 r.1 c.args.dict.now) c.in_ok-advance.ensures.step
-        ∙ sym (run_step c.args.self.now.steps.items c.loop-step.step-index c.step-item.result (groups_of c.loop-step.groups) c.loop-step.scope c.args.dict.now lt at)
-        ∙ c.loop-step.invariant.so_far;
+          ap (λ (r : List Group × Scope). run (drop (c.loop-step.step-index + 1) c.args.self.now.steps.items) r.0 r.1 c.args.dict.now) c.in_ok-advance.ensures.step
+          ∙ sym (run_step c.args.self.now.steps.items c.loop-step.step-index c.step-item.result (groups_of c.loop-step.groups) c.loop-step.scope c.args.dict.now lt at)
+          ∙ c.loop-step.invariant.so_far;
       alone = alone_twice c.args.scope.now c.loop-step.scope c.advance.new.scope c.loop-step.invariant.alone c.advance.ensures.alone;
     }
 
