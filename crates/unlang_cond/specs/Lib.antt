@@ -13,3 +13,4 @@ pub mod Trees
 pub mod Faults
 pub mod Steps
 pub mod Conditions
+pub mod Laws

@@ -11,6 +11,7 @@ mod cutting;
 mod expansion;
 mod fault;
 mod groups;
+mod laws;
 mod looks;
 mod operator;
 mod patterns;
@@ -23,3 +24,4 @@ mod words;
 
 pub use condition::Cond;
 pub use fault::CondFault;
+pub use laws::and_binds_tighter_than_or;
