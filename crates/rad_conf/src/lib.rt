@@ -12,7 +12,7 @@ mod laws;
 mod lines;
 mod mark;
 mod reading;
-mod sign;
+pub mod sign;
 mod source;
 mod spelling;
 mod tree;
@@ -25,4 +25,6 @@ pub use laws::{
     quoted_words_are_read_back, words_are_read_as_they_are_spelled,
 };
 pub use reading::{path_of, read_conf};
+pub use spelling::{Spelling as QuotedSpelling, push_escape};
 pub use tree::{Conf, Item, Node, NodeList, Quote, Word};
+pub use word::quoted_len;

@@ -78,7 +78,7 @@ fn push_both(out: &mut Vec<u8>, octet: u8) -> Result<(), NoMemory>
 }
 
 /// Adds what a backslash and an octet stand for.
-fn push_escape(how: Spelling, out: &mut Vec<u8>, octet: u8) -> Result<(), NoMemory>
+pub fn push_escape(how: Spelling, out: &mut Vec<u8>, octet: u8) -> Result<(), NoMemory>
     ensures { OnOk result (out.new.items ≡ out.old.items ++ escape_of how octet) }
 {
     match (how, octet) {

@@ -1,0 +1,32 @@
+-- Steps that are made of tokens, one at a time, from the front.
+use Rattle.std.proofs.Common.{◌≡◌, ℕ, List, [], ◌∷◌, ◌++◌, map, reverse, Option, Some, None, refl, sym, ap, ◌∙◌, inl, inr, append_assoc, subst}
+use Rattle.std.proofs.lemmas.List.{map-append, reverse-append}
+use Rattle.rad_text.specs.declared.read.ReadError.{ReadError}
+use Rattle.rad_text.specs.declared.read.ReadError.TheVariants as errors
+use Rattle.unlang_cond.specs.declared.atom.Token.{Token}
+use Rattle.unlang_cond.specs.declared.groups.Step.{Step}
+use Rattle.unlang_cond.specs.Steps.{tokens_in, pattern_in, IsReady, IsReadyStep, AreReady, Refuses, RefusedBy, RefusesAt, RefusedIn}
+
+turned : (unread new : List Token) (t : Token) → unread ≡ new ++ t ∷ [] → reverse unread ≡ t ∷ reverse new
+turned unread new t e = ap reverse e ∙ reverse-append new (t ∷ [])
+
+pub one_ready : (steps : List Step) (unread new : List Token) (t : Token) (step : Step) → unread ≡ new ++ t ∷ [] → IsReadyStep t step
+    → tokens_in (steps ++ step ∷ []) ++ reverse new ≡ tokens_in steps ++ reverse unread
+one_ready steps unread new t step e ready =
+    ap (λ (xs : List Token). xs ++ reverse new) (map-append (λ (x : Step). x.token) steps (step ∷ []) ∙ ap (λ (y : Token). tokens_in steps ++ y ∷ []) ready.token_is)
+    ∙ append_assoc (tokens_in steps) (t ∷ []) (reverse new) ∙ ap (λ (xs : List Token). tokens_in steps ++ xs) (sym (turned unread new t e))
+
+pub all_ready : (steps : List Step) (t : Token) (step : Step) → AreReady steps → IsReadyStep t step → AreReady (steps ++ step ∷ [])
+all_ready [] t step before ready = (record { token_is = refl; ready = (rw ready.token_is ready.ready) }, tt)
+all_ready (x ∷ steps) t step before ready = (before.0, all_ready steps t step before.1 ready)
+
+refuses_behind : (front : List Token) (t : Token) (back : List Token) (left : ℕ) → Refuses (pattern_in t) left → RefusesAt (front ++ t ∷ back) left
+refuses_behind [] t back left refused = inl refused
+refuses_behind (x ∷ front) t back left refused = inr (refuses_behind front t back left refused)
+
+pub refused_in : (error : ReadError ℕ) (all front : List Token) (t : Token) (unread new : List Token) → front ++ reverse unread ≡ all → unread ≡ new ++ t ∷ []
+    → RefusedBy error (pattern_in t) → RefusedIn error all
+refused_in errors.NoMemory all front t unread new e pop refused = tt
+refused_in (errors.Wrong left) all front t unread new e pop refused =
+    let whole : front ++ t ∷ reverse new ≡ all = ap (λ (xs : List Token). front ++ xs) (sym (turned unread new t pop)) ∙ e in
+    subst (λ (ts : List Token). RefusesAt ts left) whole (refuses_behind front t (reverse new) left refused)

@@ -1,0 +1,16 @@
+pub mod Words
+pub mod Operators
+pub mod Expansions
+pub mod Sides
+pub mod Atoms
+pub mod Tokens
+pub mod Patterns
+pub mod Texts
+pub mod Looks
+pub mod Tests
+pub mod Machine
+pub mod Trees
+pub mod Faults
+pub mod Steps
+pub mod Conditions
+pub mod Laws

@@ -1,0 +1,42 @@
+-- What a look for a pattern captures: the leftmost match in the text and its first eight groups, after unlang(5). What
+-- matches is the meaning of the pattern by the crate `regex` over bytes.
+use Rattle.std.specs.Prelude.{ℕ, zero, suc, ◌&&◌, nat_le, nat_lt, List, [], ◌∷◌, map, length, slice_range, Option, Some, None, if◌then◌else◌}
+use Rattle.std.specs.Option.{option_map, option_and_then}
+use Rattle.regex.specs.declared.bytes.regex.Regex.{Regex}
+use Rattle.regex.specs.declared.locations.CaptureLocations.{CaptureLocations}
+use Rattle.regex.specs.Patterns.{Match, find, span}
+use Rattle.regex.specs.Bytes.{regex_pattern, group_count}
+use Rattle.regex.specs.Locations.{location, location_count}
+use Rattle.regex.specs.Writes.{group_of}
+
+-- What stands between two offsets of a text.
+abbrev pub cut_out : List ℕ → ℕ × ℕ → Option (List ℕ)
+cut_out text s = if nat_le s.0 s.1 && nat_le s.1 (length text) then Some (slice_range text s.0 s.1) else None
+
+-- The groups that are captured: the whole, and eight more.
+abbrev pub nine : List ℕ
+nine = 0 ∷ 1 ∷ 2 ∷ 3 ∷ 4 ∷ 5 ∷ 6 ∷ 7 ∷ 8 ∷ []
+
+-- What a match spans, or its group of a number from 1 on.
+abbrev pub span_of : Match → ℕ → Option (ℕ × ℕ)
+span_of m zero = Some (span m)
+span_of m (suc n) = group_of m (suc n)
+
+-- What a group of the pattern spans in a match, if it took part.
+unfoldable pub group_span : Regex → Match → ℕ → Option (ℕ × ℕ)
+group_span regex m n = if nat_lt n (group_count regex) then span_of m n else None
+
+-- What the groups capture.
+abbrev pub captured : Regex → List ℕ → Match → List (Option (List ℕ))
+captured regex text m = map (λ n. option_and_then (cut_out text) (group_span regex m n)) nine
+
+-- The captures of the leftmost match, if there is one.
+unfoldable pub looked : Regex → List ℕ → Option (List (Option (List ℕ)))
+looked regex text = option_map (captured regex text) (find (regex_pattern regex) text 0)
+
+-- What the locations of a match capture.
+abbrev pub located : CaptureLocations → List ℕ → ℕ → Option (List ℕ)
+located locations text n = if nat_lt n (location_count locations) then option_and_then (cut_out text) (location locations n) else None
+
+abbrev pub all_located : CaptureLocations → List ℕ → List (Option (List ℕ))
+all_located locations text = map (located locations text) nine

@@ -1,0 +1,61 @@
+//! Conditions.
+
+ghost use Rattle.std.specs.Prelude.{◌≡◌};
+ghost use Rattle.unlang_cond.specs.Tokens.{depth_from};
+ghost use Rattle.unlang_cond.specs.Steps.{tokens_in};
+
+use crate::CondFault;
+use crate::cutting::{Cut, tokens_of};
+use crate::fault::{fault_of, refusal_of};
+use crate::groups::{Groups, Step};
+use crate::steps::steps_of;
+use rad_dict::Dict;
+use rad_outside::NoMemory;
+use rad_value::Scope;
+use std::alloc::Global;
+
+/// A condition that was read, with its patterns compiled.
+#[derive(Drop)]
+pub struct Cond {
+    steps: Vec<Step>,
+    pub ghost closed: { depth_from 0 (tokens_in steps.items) ≡ 0 },
+}
+
+impl Cond {
+    ghost use Rattle.std.specs.Prelude.{IfOk, IfErr};
+    ghost use Rattle.rad_value.specs.Scope.{IsInTime};
+    ghost use Rattle.unlang_cond.specs.Tests.{OnlyCaptures};
+    ghost use Rattle.unlang_cond.specs.Trees.{holds};
+    ghost use Rattle.unlang_cond.specs.Conditions.{condition_of, IsReadAs, IsFaultOf};
+
+    /// The condition of a text, or its first fault.
+    pub fn parse(alloc: Global, text: &[u8], dict: &Dict) -> Result<Cond, CondFault>
+        ensures read { IfOk result (λ cond. IsReadAs cond text.now dict.now) }
+        ensures fault { IfErr result (λ fault. IsFaultOf fault text.now dict.now) }
+    {
+        let Ok(Cut { tokens, wrong }) = tokens_of(alloc, text, dict) else {
+            return Err(CondFault::NoMemory);
+        };
+        let steps = match steps_of(alloc, tokens) {
+            Ok(steps) => steps,
+            Err(error) => return Err(refusal_of(text.len(), error)),
+        };
+        match wrong {
+            Some(wrong) => Err(fault_of(text.len(), wrong)),
+            None => Ok(Cond { steps }),
+        }
+    }
+
+    /// Whether the condition holds. A look for a pattern sets the scope's captures, and nothing else of the scope changes.
+    pub fn holds(&self, alloc: Global, scope: &mut Scope, dict: &Dict) -> Result<bool, NoMemory>
+        requires { IsInTime scope.old.moment }
+        ensures holds { IfOk result (λ value. (value, scope.new) ≡ holds (condition_of self.now) scope.old dict.now) }
+        ensures alone { OnlyCaptures scope.old scope.new }
+    {
+        let mut groups = Groups::new(alloc);
+        for step in &self.steps {
+            groups.advance(alloc, step, scope, dict)?;
+        }
+        Ok(groups.is_met())
+    }
+}

@@ -1,0 +1,73 @@
+//! Looks for a pattern.
+
+ghost use Rattle.std.specs.Prelude.{◌≡◌, IfOk};
+ghost use Rattle.std.specs.Option.{option_map};
+ghost use Rattle.unlang_cond.specs.Looks.{cut_out, located, all_located, looked};
+
+use rad_outside::{NoMemory, Octets};
+use regex::bytes::{CaptureLocations, Regex};
+use std::alloc::Global;
+
+/// The nine captures of a scope.
+pub type Captures = [Option<Octets>; 9];
+
+/// What stands between two offsets of a text.
+fn cut_out(text: &[u8], start: usize, end: usize) -> Option<&[u8]>
+    ensures { option_map (λ x. x.now) result ≡ cut_out text.now (start, end) }
+{
+    if start <= end && end <= text.len() {
+        Some(&text[start..end])
+    } else {
+        None
+    }
+}
+
+/// A copy of what a group spans, if it took part.
+fn located(
+    alloc: Global,
+    locations: &CaptureLocations,
+    text: &[u8],
+    group: usize,
+) -> Result<Option<Octets>, NoMemory>
+    ensures { IfOk result (λ octets. octets ≡ located locations.now text.now group) }
+{
+    if group >= locations.len() {
+        return Ok(None);
+    }
+    let Some((start, end)) = locations.get(group) else {
+        return Ok(None);
+    };
+    match cut_out(text, start, end) {
+        Some(part) => Ok(Some(Octets::of(alloc, part)?)),
+        None => Ok(None),
+    }
+}
+
+/// What the first nine groups span.
+fn captured(alloc: Global, locations: &CaptureLocations, text: &[u8]) -> Result<Captures, NoMemory>
+    ensures { IfOk result (λ captures. captures ≡ all_located locations.now text.now) }
+{
+    Ok([
+        located(alloc, locations, text, 0)?,
+        located(alloc, locations, text, 1)?,
+        located(alloc, locations, text, 2)?,
+        located(alloc, locations, text, 3)?,
+        located(alloc, locations, text, 4)?,
+        located(alloc, locations, text, 5)?,
+        located(alloc, locations, text, 6)?,
+        located(alloc, locations, text, 7)?,
+        located(alloc, locations, text, 8)?,
+    ])
+}
+
+/// The captures of the pattern's leftmost match in a text, if there is one.
+pub fn look(alloc: Global, regex: &Regex, text: &[u8]) -> Result<Option<Captures>, NoMemory>
+    ensures { IfOk result (λ captures. captures ≡ looked regex.now text.now) }
+{
+    let mut matcher = regex.matcher(alloc)?;
+    let mut locations = regex.capture_locations(alloc)?;
+    match matcher.captures_read(&mut locations, text) {
+        Some(_) => Ok(Some(captured(alloc, &locations, text)?)),
+        None => Ok(None),
+    }
+}

@@ -1,0 +1,6 @@
+pub mod Spans
+pub mod Words
+pub mod Reading
+pub mod Faults
+pub mod Texts
+pub mod Paths
