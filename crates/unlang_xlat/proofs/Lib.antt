@@ -5,3 +5,6 @@ pub mod Parsing
 pub mod WrittenSpans
 pub mod WrittenWords
 pub mod WrittenParts
+pub mod FaultPlaces
+pub mod FaultReadings
+pub mod FaultLaw

@@ -5,3 +5,4 @@ pub mod Faults
 pub mod Texts
 pub mod Paths
 pub mod Written
+pub mod Places
