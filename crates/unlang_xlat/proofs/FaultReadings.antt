@@ -1,5 +1,5 @@
 -- What is wrong with an expansion's text is told from the percent sign of its part on.
-use Rattle.std.proofs.Common.{◌≡◌, ℕ, zero, suc, ◌+◌, ◌-◌, ◌<◌, ◌≤◌, ◌⊎◌, inl, inr, Bool, true, false, eqb, List, [], ◌∷◌, ◌++◌, length, take, drop, Option, Some, None, Result, Ok, Err, refl, sym, ap, subst, ◌∙◌, length-drop, arith}
+use Rattle.std.proofs.Common.{◌≡◌, ℕ, zero, suc, ◌<◌, ◌≤◌, ◌⊎◌, inl, inr, Bool, true, eqb, List, [], ◌∷◌, length, take, drop, Option, Some, None, Result, Ok, Err, refl, sym, ap, subst, ◌∙◌, length-drop, arith}
 use Rattle.std.proofs.lemmas.Bool.{cases_Bool, eqb-true}
 use Rattle.std.specs.Option.{is_some, option_map}
 use Rattle.rad_dict.specs.Definitions.{Definitions}
@@ -9,15 +9,14 @@ use Rattle.unlang_reference.specs.Reading.{reference_of}
 use Rattle.unlang_reference.specs.declared.reading.NoReference.{NoReference}
 use Rattle.unlang_reference.specs.declared.reading.NoReference.TheVariants as no_reference
 use Rattle.unlang_xlat.specs.declared.fault.Wrong.{Wrong}
-use Rattle.unlang_xlat.specs.declared.fault.Wrong.TheVariants.{BadExpansion, UnknownAttr, UnknownFunction}
+use Rattle.unlang_xlat.specs.declared.fault.Wrong.TheVariants.{BadExpansion, UnknownFunction}
 use Rattle.unlang_xlat.specs.declared.part.DatePart.{DatePart}
-use Rattle.unlang_xlat.specs.declared.part.Function.{Function}
 use Rattle.unlang_xlat.specs.declared.part.Part.{Part}
 use Rattle.unlang_xlat.specs.declared.part.Part.TheVariants as part
 use Rattle.unlang_xlat.specs.Spans.{len_before, plain_len, behind, behind_sign}
 use Rattle.unlang_xlat.specs.Words.{date_part, function_named, is_list, fixed_part, reference_error, referenced, word_part}
-use Rattle.unlang_xlat.specs.Reading.{Reader, begins_part, part_at, plain_of, piece_at, closes, ended, before, parts_in, second_at, alternative_at, call_at, listed_at, alone_at, behind_name, named_at, body_at, braced}
-use Rattle.unlang_xlat.proofs.FaultPlaces.{left_of, At, Ends, ends_same, ends_cons, ends_trans, ends_drop, ends_length, at_behind, at_front, cond_split, ok_same, err_same, some_same, ok_err, err_ok, bind_ok, bind_err, found_ok, found_err, map_some, behind_ends, sign_ends}
+use Rattle.unlang_xlat.specs.Reading.{Reader, begins_part, part_at, piece_at, closes, ended, parts_in, second_at, alternative_at, call_at, listed_at, behind_name, named_at, body_at, braced}
+use Rattle.unlang_xlat.proofs.FaultPlaces.{left_of, At, Ends, ends_same, ends_cons, ends_trans, ends_drop, ends_length, at_behind, at_front, cond_split, ok_same, err_same, ok_err, err_ok, bind_ok, bind_err, found_ok, found_err, map_some, behind_ends, sign_ends}
 
 -- A reader of parts: it leaves the text's end, takes an octet at least, and what is wrong with a text that a percent sign
 -- begins is told from a percent sign of it on.

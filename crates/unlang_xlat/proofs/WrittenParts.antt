@@ -1,18 +1,16 @@
 -- Expansions that are written and read again.
-use Rattle.std.proofs.Common.{◌≡◌, ℕ, zero, suc, ◌+◌, ◌<◌, ◌≤◌, Bool, true, false, ◌||◌, ◌==◌, eqb, List, [], ◌∷◌, ◌++◌, length, take, drop, Option, Some, None, Result, Ok, refl, sym, ap, ◌∙◌, append_assoc, length-append, arith}
+use Rattle.std.proofs.Common.{◌≡◌, ℕ, zero, suc, ◌≤◌, Bool, true, false, eqb, List, [], ◌∷◌, ◌++◌, length, Option, Some, None, Ok, refl, sym, ap, ◌∙◌, append_assoc, length-append, arith}
 use Rattle.std.proofs.lemmas.List.{append-nil}
 use Rattle.std.proofs.lemmas.Bool.{and_parts}
 use Rattle.std.proofs.Math.Seq.{take-append_seam, drop-append_seam}
 use Rattle.std.specs.Option.{is_some}
 use Rattle.std.specs.Prelude.{codes}
 use Rattle.rad_dict.specs.Definitions.{Definitions}
-use Rattle.rad_text.specs.Read.{Read}
-use Rattle.unlang_xlat.specs.declared.fault.Wrong.{Wrong}
 use Rattle.unlang_xlat.specs.declared.part.Function.{Function}
 use Rattle.unlang_xlat.specs.declared.part.Part.{Part}
 use Rattle.unlang_xlat.specs.declared.part.Part.TheVariants as part
 use Rattle.unlang_xlat.specs.Spans.{plain_len}
-use Rattle.unlang_xlat.specs.Reading.{Reader, begins_part, part_at, piece_at, closes, before, parts_in, second_at, alternative_at, call_at, body_at, braced}
+use Rattle.unlang_xlat.specs.Reading.{Reader, begins_part, part_at, piece_at, closes, parts_in, second_at, alternative_at, call_at, braced}
 use Rattle.unlang_xlat.specs.Faults.{parsed}
 use Rattle.unlang_xlat.specs.Written.{lacks, in_braces, function_name, is_plain, is_part_or_end, IsPartOf, percent, moment, alone, listed, capture, loop, source, no_source, alternative, call, IsSecondOf, second_part, second_text, ArePartsOf, no_parts, then_part, then_text, IsExpansionOf}
 use Rattle.unlang_xlat.proofs.Parsing.{said_parts}
