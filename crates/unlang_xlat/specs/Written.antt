@@ -55,8 +55,8 @@ abbrev pub is_part_or_end : List ℕ → Bool
 is_part_or_end [] = true
 is_part_or_end (c ∷ text) = c == 37
 
--- The text of a reference that names no list stands in braces as it is, where no brace or colon is in it, no percent sign
--- begins it, and it is no other word.
+-- The text of a reference that names no list stands in braces as it is, where no closing brace, colon or percent sign is in it
+-- and it is none of the words that stand for no attribute.
 pub record IsAlone (dict : Definitions) (reference : Reference) (text : List ℕ) : Type 0 where
   pub reads : reference_of text dict ≡ Ok reference
   pub closed : lacks 125 text ≡ true
