@@ -1,5 +1,5 @@
 -- Parts in braces, a level deeper.
-use Rattle.std.proofs.Common.{◌≡◌, ℕ, zero, suc, ◌-◌, ◌<◌, true, false, List, length, drop, Err, refl, sym, ap, ◌∙◌, arith}
+use Rattle.std.proofs.Common.{◌≡◌, ℕ, zero, suc, ◌-◌, ◌<◌, true, false, List, length, drop, Err, refl, ◌∙◌, arith}
 use Rattle.rad_dict.specs.Definitions.{Definitions}
 use Rattle.unlang_xlat.specs.declared.fault.Wrong.TheVariants.{BadExpansion}
 use Rattle.unlang_xlat.specs.Reading.{begins_part, alternative_at, named_at, body_at, braced}

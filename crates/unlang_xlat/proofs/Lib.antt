@@ -2,3 +2,9 @@ pub mod Turns
 pub mod Levels
 pub mod Cuts
 pub mod Parsing
+pub mod WrittenSpans
+pub mod WrittenWords
+pub mod WrittenParts
+pub mod FaultPlaces
+pub mod FaultReadings
+pub mod FaultLaw

@@ -1,5 +1,5 @@
 -- What is said of a whole text, from its parts.
-use Rattle.std.proofs.Common.{◌≡◌, ℕ, List, length, None, Result, Ok, Err, refl}
+use Rattle.std.proofs.Common.{◌≡◌, ℕ, List, length, None, Ok, refl}
 use Rattle.rad_dict.specs.Definitions.{Definitions}
 use Rattle.rad_text.specs.declared.read.ReadError.{ReadError}
 use Rattle.rad_text.specs.declared.read.ReadError.TheVariants as errors

@@ -4,3 +4,5 @@ pub mod Reading
 pub mod Faults
 pub mod Texts
 pub mod Paths
+pub mod Written
+pub mod Places

@@ -92,16 +92,18 @@ listed_at left body dict = do
 abbrev pub alone_at : ℕ → List ℕ → List ℕ → Definitions → Read Part Wrong
 alone_at left word rest dict = word_part left word dict >>= λ one. Ok (one, rest)
 
+-- What stands behind the name at the front of a part in braces: the brace that closes it, or a colon, behind which the name of
+-- a list has an attribute and every other name is a function's.
+abbrev pub behind_name : Reader → ℕ → List ℕ → Definitions → List ℕ → List ℕ → Read Part Wrong
+behind_name braced left body dict name [] = Err (BadExpansion left)
+behind_name braced left body dict name (c ∷ rest) =
+    if c == 125 then alone_at left name rest dict
+    else (if is_list name then listed_at left body dict else call_at braced left name rest)
+
 -- A part in braces that begins with a name, from the name on: of the whole so many octets are left. The name ends at a colon
 -- or a brace.
 unfoldable pub named_at : Reader → ℕ → List ℕ → Definitions → Read Part Wrong
-named_at braced left body dict = elim (drop (len_before 58 125 body) body) [
-  | [] ↦ Err (BadExpansion left)
-  | c ∷ rest ↦
-      if c == 125 then alone_at left (take (len_before 58 125 body) body) rest dict
-      else (if is_list (take (len_before 58 125 body) body) then listed_at left body dict
-      else call_at braced left (take (len_before 58 125 body) body) rest)
-]
+named_at braced left body dict = behind_name braced left body dict (take (len_before 58 125 body) body) (drop (len_before 58 125 body) body)
 
 -- A part in braces, from behind the brace on: of the whole so many octets are left.
 abbrev pub body_at : Reader → Definitions → ℕ → List ℕ → Read Part Wrong

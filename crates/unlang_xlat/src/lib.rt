@@ -7,6 +7,7 @@
 
 mod dates;
 mod fault;
+mod laws;
 mod part;
 mod paths;
 mod reading;
@@ -17,6 +18,7 @@ mod words;
 mod xlat;
 
 pub use fault::XlatFault;
+pub use laws::{faults_are_told_at_a_percent_sign, written_expansions_are_read_back};
 pub use part::{DatePart, Function, Part};
 pub use rad_dates::{Civil, date_of, stamp};
 pub use unlang_reference::Reference;

@@ -3,7 +3,7 @@
 
 ghost use Rattle.std.specs.Prelude.{◌≡◌, ◌+◌, ◌<◌, ◌≤◌, length, drop, IfOk};
 ghost use Rattle.rad_text.specs.Read.{Gives};
-ghost use Rattle.unlang_xlat.specs.Reading.{begins_part, part_at, plain_of, alone_at, piece_at, second_at, closes, ended, parts_in, listed_at, call_at, named_at, alternative_at, braced};
+ghost use Rattle.unlang_xlat.specs.Reading.{begins_part, part_at, plain_of, alone_at, piece_at, second_at, closes, parts_in, listed_at, call_at, named_at, alternative_at, braced};
 
 use crate::fault::Wrong;
 use crate::part::Part;

@@ -1,4 +1,4 @@
-use Rattle.std.proofs.Common.{◌≡◌, ◌<◌, length, sym, ◌∙◌, rules, arith}
+use Rattle.std.proofs.Common.{length, sym, ◌∙◌, arith}
 use Rattle.unlang_xlat.specs.Reading.{braced, parts_in}
 use Rattle.unlang_xlat.proofs.Levels.{no_level, first_side, named_side}
 use Rattle.unlang_xlat.proofs.Turns.{starts, goes_on_at}

@@ -1,4 +1,4 @@
-use Rattle.std.proofs.Common.{◌≡◌, length, drop, ap, rules, arith, ◌∙◌}
+use Rattle.std.proofs.Common.{drop, ap, rules, arith, ◌∙◌}
 use Rattle.std.proofs.lemmas.List.{drop_all}
 use Rattle.unlang_xlat.specs.Texts.{part_text, text_of, expanded}
 use Rattle.unlang_xlat.proofs.Cuts.{cut_off, cut_done, second_text}
