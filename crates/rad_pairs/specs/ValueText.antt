@@ -47,6 +47,16 @@ value_text attr (value.Date seconds) dict = decimal seconds
 value_text attr (value.Byte number) dict = number_text attr number dict
 value_text attr (value.Short number) dict = number_text attr number dict
 
+-- The text of an attribute's value in an expansion: a text as it stands, every other value as in a pair. After unlang(5).
+abbrev pub plain_text : AttrId → Value → Definitions → List ℕ
+plain_text attr (value.Text text) dict = text
+plain_text attr (value.Octets octets) dict = hexadecimal octets
+plain_text attr (value.Addr address) dict = dotted address
+plain_text attr (value.Number number) dict = number_text attr number dict
+plain_text attr (value.Date seconds) dict = decimal seconds
+plain_text attr (value.Byte number) dict = number_text attr number dict
+plain_text attr (value.Short number) dict = number_text attr number dict
+
 -- An attribute by its space and number.
 unfoldable pub numbered_text : Space → ℕ → List ℕ
 numbered_text Standard number = codes "Attr-" ++ decimal number

@@ -75,9 +75,11 @@ fn kind_or_octets(attr: AttrId, dict: &Dict) -> Kind
     }
 }
 
-/// The attribute of a name, and its kind.
+/// The attribute that a name means, and the kind that the name gives it: the dictionary's of that name, compared without
+/// regard to ASCII case, else one by its number as `Attr-N`, or `Attr-26.V.N` for number N of vendor V. Such an attribute
+/// has the kind of its number's first definition, or Octets. The empty name is none.
 #[tactic(auto, unfolding(crate::specs::AttrNames::named))]
-pub fn named(name: &[u8], dict: &Dict) -> Option<AttrKind>
+pub fn attr_by_name(name: &[u8], dict: &Dict) -> Option<AttrKind>
     ensures { result ≡ named name.now dict.now }
 {
     if name.is_empty() {

@@ -8,7 +8,7 @@ ghost use Rattle.rad_text.specs.Answers.{IsAnswer};
 ghost use Rattle.rad_pairs.specs.PairParts.{is_missing, value_behind, separated, value_at, operator_of};
 ghost use Rattle.rad_pairs.specs.Items.{value_error, pair_at, part_at, error_left, fault_at, items_of, says};
 
-use crate::attr_reading::{AttrKind, named};
+use crate::attr_reading::{AttrKind, attr_by_name};
 use crate::fault::{NoValue, Wrong};
 use crate::operators::{Operator, operator_at};
 use crate::value_reading::value_of;
@@ -112,7 +112,7 @@ fn pair_at<'a>(
     ensures inside { IfErr result (λ fault. error_left fault ≤ length text.now) }
 {
     let (name, rest) = text.split_at(name_len(text));
-    let Some(attr) = named(name, dict) else {
+    let Some(attr) = attr_by_name(name, dict) else {
         return Err(ReadError::Wrong(Wrong::UnknownAttr(text.len())));
     };
     let Some((op, after)) = operator_of(after_blanks(rest)) else {

@@ -3,7 +3,7 @@
 ghost use Rattle.std.specs.Prelude.{◌≡◌, ◌<◌, [], ◌∷◌, ◌++◌, Ok, IfOk, OnOk};
 ghost use Rattle.std.specs.Fmt.{decimal};
 ghost use Rattle.std.specs.Char.{digit_char};
-ghost use Rattle.rad_pairs.specs.ValueText.{escaped, quoted, two_digits, hexadecimal, number_text, value_text, numbered_text, attr_text, pair_text};
+ghost use Rattle.rad_pairs.specs.ValueText.{escaped, quoted, two_digits, hexadecimal, number_text, value_text, plain_text, numbered_text, attr_text, pair_text};
 ghost use Rattle.rad_pairs.specs.Items.{items_of};
 ghost use Rattle.rad_pairs.specs.ReadingBack.{AreOctets, InRange, IsSpace, HasItsKind, item_of};
 
@@ -104,6 +104,26 @@ fn put_value(
         Value::Date(seconds) => put_decimal(alloc, text, u64::from(*seconds)),
         Value::Byte(number) => put_number(alloc, text, attr, u32::from(*number), dict),
         Value::Short(number) => put_number(alloc, text, attr, u32::from(*number), dict),
+    }
+}
+
+/// Adds the text of a value of this attribute as it stands in an expansion: a text as it is, without quotes, and every other
+/// value as in a pair.
+pub fn put_plain(
+    alloc: Global,
+    text: &mut Vec<u8>,
+    attr: AttrId,
+    value: &Value,
+    dict: &Dict,
+) -> Result<(), NoMemory>
+    ensures { OnOk result (text.new.items ≡ text.old.items ++ plain_text attr value.now dict.now) }
+{
+    match value {
+        Value::Text(octets) => {
+            text.extend_from_slice(octets.as_slice())?;
+            Ok(())
+        }
+        other => put_value(alloc, text, attr, other, dict),
     }
 }
 

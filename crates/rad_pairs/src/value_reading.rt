@@ -87,7 +87,7 @@ fn said(value: Option<Value>) -> Result<Value, ReadError<NoValue>>
     value.ok_or(ReadError::Wrong(NoValue))
 }
 
-/// The value of a text for an attribute and its kind.
+/// The value that a text means for an attribute and its kind, as `read_value` says. `NoValue` where it means none.
 pub fn value_of(
     alloc: Global,
     attr: AttrKind,
