@@ -1,2 +1,6 @@
 pub mod Methods
 pub mod Instances
+pub mod Readings
+pub mod Words
+pub mod Calls
+pub mod Updates

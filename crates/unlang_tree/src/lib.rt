@@ -6,11 +6,15 @@
 //! Above it stand the tables that a server runs.
 #![tactic(auto)]
 
+mod calls;
 mod fault;
 mod instances;
 mod method_set;
 mod policies;
+mod refusal;
 mod statement;
+mod updates;
+mod words;
 
 pub use fault::{AddFault, TreeFault};
 pub use instances::Instances;
