@@ -4,3 +4,5 @@ pub mod Readings
 pub mod Words
 pub mod Calls
 pub mod Updates
+pub mod Sites
+pub mod Statements

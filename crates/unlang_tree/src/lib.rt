@@ -12,7 +12,9 @@ mod instances;
 mod method_set;
 mod policies;
 mod refusal;
+mod site;
 mod statement;
+mod statements;
 mod updates;
 mod words;
 
