@@ -1,1 +1,2 @@
 mod InstanceLemmas
+mod Walks

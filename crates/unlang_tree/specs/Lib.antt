@@ -6,3 +6,5 @@ pub mod Calls
 pub mod Updates
 pub mod Sites
 pub mod Statements
+pub mod Sections
+pub mod Policies

@@ -13,6 +13,11 @@ abbrev pub Gives : {Y : Type 0} → Result Y TreeFault → Result Y TreeFault �
 Gives (Ok x) read = read ≡ Ok x
 Gives (Err e) read = (e ≡ fault.NoMemory) ⊎ (read ≡ Err e)
 
+-- What a function answered and left is what reading gives.
+abbrev pub Leaves : {Y : Type 0} → Result (Unit {0}) TreeFault → Result Y TreeFault → Y → Type 0
+Leaves (Ok done) read now = read ≡ Ok now
+Leaves (Err e) read now = (e ≡ fault.NoMemory) ⊎ (read ≡ Err e)
+
 -- What is wrong with a node, at its place.
 abbrev pub fault_at : Wrong → Place → TreeFault
 fault_at wrong.NoSuchMethod place = fault.NoSuchMethod place
@@ -22,9 +27,12 @@ fault_at wrong.BadUpdate place = fault.BadUpdate place
 fault_at wrong.TooMany place = fault.TooMany place
 fault_at wrong.NotBuilt place = fault.NotBuilt place
 
--- A server has 65,536 statements at most: this is one more than so many before it.
+-- One statement more, where the server has room for so many. It has room for 65,536.
 unfoldable pub one_more : ℕ → Place → Result (Unit {0}) TreeFault
-one_more before place = if nat_lt before 65536 then Ok tt else Err (fault.TooMany place)
+one_more room place = if nat_lt 0 room then Ok tt else Err (fault.TooMany place)
+
+abbrev pub most_statements : ℕ
+most_statements = 65536
 
 -- What is known after each of the nodes.
 unfoldable pub after_each : {S : Type 0} → (S → Node → Result S TreeFault) → S → List Node → Result S TreeFault

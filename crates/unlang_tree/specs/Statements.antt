@@ -1,5 +1,5 @@
 -- The statements of a section, one equation for each form of a node. After the manual page unlang(5).
-use Rattle.std.specs.Prelude.{ℕ, Bool, true, false, not, ◌+◌, ◌&&◌, ◌||◌, List, [], ◌∷◌, ◌++◌, length, Option, Some, None, is_some, Result, Ok, Err, codes, if◌then◌else◌}
+use Rattle.std.specs.Prelude.{ℕ, Bool, true, false, not, ◌-◌, ◌&&◌, ◌||◌, List, [], ◌∷◌, ◌++◌, length, Option, Some, None, is_some, Result, Ok, Err, codes, if◌then◌else◌}
 use Rattle.std.specs.List.{list_all}
 use Rattle.std.specs.Str.{str_eq_ignore_ascii_case}
 use Rattle.rad_outside.specs.declared.files.Place.{Place}
@@ -20,16 +20,16 @@ use Rattle.unlang_tree.specs.Words.{is_one_of, later_words, later_blocks}
 use Rattle.unlang_tree.specs.Calls.{call_at}
 use Rattle.unlang_tree.specs.Updates.{update_at}
 
--- The statement that is a call, before which so many stand in the server; none where the call counts as not written.
+-- The statement that is a call, where the server has room for so many more; none where the call counts as not written.
 unfoldable pub counted_call : ℕ → Place → Option Call → Result (Option Statement) TreeFault
-counted_call before place None = Ok None
-counted_call before place (Some call) = one_more before place >>= λ counted. Ok (Some (record { place = place; kind = kinds.Call call }))
+counted_call room place None = Ok None
+counted_call room place (Some call) = one_more room place >>= λ counted. Ok (Some (record { place = place; kind = kinds.Call call }))
 
 -- A word alone: a statement that isn't built yet, or a call.
 unfoldable pub word_at : Site → Section → ℕ → Place → List ℕ → Result (Option Statement) TreeFault
-word_at site section before place word =
+word_at site section room place word =
     if is_one_of later_words word then Err (fault.NotBuilt place)
-    else (call_at site.root site.instances section place word >>= λ call. counted_call before place call)
+    else (call_at site.root site.instances section place word >>= λ call. counted_call room place call)
 
 -- Whether an item is a pair.
 abbrev pub is_pair : Node → Bool
@@ -50,25 +50,25 @@ call_block_at site section place kind name body =
     if is_some name || not (list_all is_pair body) then Err (fault.UnknownKeyword place)
     else (call_at site.root site.instances section place kind >>= λ call. with_actions place call)
 
--- An update, before which so many statements stand in the server.
+-- An update, where the server has room for so many statements more.
 abbrev pub update_statement : Site → ℕ → Place → Option Word → List Node → Result (Option Statement) TreeFault
-update_statement site before place name body =
-    update_at site.dict before place name body >>= λ edit. Ok (Some (record { place = place; kind = kinds.Update edit }))
+update_statement site room place name body =
+    update_at site.dict room place name body >>= λ edit. Ok (Some (record { place = place; kind = kinds.Update edit }))
 
 -- A block: an update, a statement that isn't built yet, or a call.
 unfoldable pub block_at : Site → Section → ℕ → Place → List ℕ → Option Word → List Node → Result (Option Statement) TreeFault
-block_at site section before place kind name body =
+block_at site section room place kind name body =
     if str_eq_ignore_ascii_case kind (codes "update")
-    then update_statement site before place name body
+    then update_statement site room place name body
     else (if is_one_of later_blocks kind then Err (fault.NotBuilt place)
     else call_block_at site section place kind name body)
 
--- The statement of a node, before which so many stand in the server; none where it counts as not written. A pair is none.
+-- The statement of a node, where the server has room for so many more; none where it counts as not written. A pair is none.
 unfoldable pub statement_at : Site → Section → ℕ → Node → Result (Option Statement) TreeFault
-statement_at site section before node = elim (out-Item node.item) [
+statement_at site section room node = elim (out-Item node.item) [
   | level.Pair left operator right ↦ Err (fault.BadAction node.place)
-  | level.Name word ↦ word_at site section before node.place word.text
-  | level.Block kind name body ↦ block_at site section before node.place kind.text name body
+  | level.Name word ↦ word_at site section room node.place word.text
+  | level.Block kind name body ↦ block_at site section room node.place kind.text name body
 ]
 
 -- The statements with one more, where it counts as written.
@@ -78,9 +78,9 @@ and_also statements (Some statement) = statements ++ statement ∷ []
 
 -- The statements with that of one more node.
 unfoldable pub with_statement : Site → Section → ℕ → List Statement → Node → Result (List Statement) TreeFault
-with_statement site section before statements node =
-    statement_at site section (before + length statements) node >>= λ statement. Ok (and_also statements statement)
+with_statement site section room statements node =
+    statement_at site section (room - length statements) node >>= λ statement. Ok (and_also statements statement)
 
 -- The statements of a section's nodes, in order.
 abbrev pub statements_of : Site → Section → ℕ → List Node → Result (List Statement) TreeFault
-statements_of site section before nodes = after_each (with_statement site section before) [] nodes
+statements_of site section room nodes = after_each (with_statement site section room) [] nodes

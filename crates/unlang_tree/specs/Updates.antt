@@ -116,9 +116,9 @@ list_at place (Some word) = elim (list_named word.text) [
   | Some list.Control ↦ Ok tt
 ]
 
--- The edit of an update, before which so many statements stand in the server.
+-- The edit of an update, where the server has room for so many statements more.
 unfoldable pub update_at : Definitions → ℕ → Place → Option Word → List Node → Result Edit TreeFault
-update_at dict before place name body = do
+update_at dict room place name body = do
   control ← list_at place name
-  counted ← one_more before place
+  counted ← one_more room place
   edit_of dict place body

@@ -12,9 +12,12 @@ mod instances;
 mod method_set;
 mod policies;
 mod refusal;
+mod servers;
 mod site;
 mod statement;
 mod statements;
+mod subsections;
+mod tree;
 mod updates;
 mod words;
 
@@ -23,3 +26,4 @@ pub use instances::Instances;
 pub use method_set::MethodSet;
 pub use policies::{Policies, SectionTree, Sections, ServerTree, Subsection, Subsections};
 pub use statement::{Call, Override, Overrides, Statement, StatementKind, Statements};
+pub use tree::Tree;

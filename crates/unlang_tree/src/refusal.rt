@@ -8,9 +8,6 @@ use rad_outside::Place;
 use rad_text::place_at;
 use std::alloc::Global;
 
-/// The statements of one server, all its sections together.
-const MOST_STATEMENTS: usize = 65_536;
-
 /// What is wrong with a node, without the place.
 #[derive(Clone, Copy, Debug, PartialEq, Eq)]
 pub enum Wrong {
@@ -45,10 +42,10 @@ pub(crate) fn refuse<T>(alloc: Global, place: &Place, wrong: Wrong) -> Result<T,
 
 /// Refuses the 65,537th statement of a server.
 #[tactic(auto, unfolding(crate::specs::Readings::one_more))]
-pub(crate) fn one_more(alloc: Global, before: usize, place: &Place) -> Result<(), TreeFault>
-    ensures { Gives result (one_more before place.now) }
+pub(crate) fn one_more(alloc: Global, room: usize, place: &Place) -> Result<(), TreeFault>
+    ensures { Gives result (one_more room place.now) }
 {
-    if before < MOST_STATEMENTS {
+    if room > 0 {
         Ok(())
     } else {
         refuse(alloc, place, Wrong::TooMany)

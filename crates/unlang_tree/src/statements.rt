@@ -1,8 +1,8 @@
 //! The statements of a section.
 
-ghost use Rattle.std.specs.Prelude.{◌≡◌, ◌≤◌, ◌+◌, [], length, OnOk, IfOk};
+ghost use Rattle.std.specs.Prelude.{◌≡◌, ◌≤◌, ◌-◌, [], length, OnOk, IfOk};
 ghost use Rattle.std.specs.List.{list_all};
-ghost use Rattle.unlang_tree.specs.Readings.{Gives, after_each};
+ghost use Rattle.unlang_tree.specs.Readings.{Gives, Leaves, after_each};
 ghost use Rattle.unlang_tree.specs.Sites.{site_of};
 ghost use Rattle.unlang_tree.specs.Statements.{counted_call, word_at, is_pair, with_actions, call_block_at, update_statement, block_at, statement_at, and_also, with_statement, statements_of};
 
@@ -31,16 +31,16 @@ fn statement(alloc: Global, place: &Place, kind: StatementKind) -> Result<Statem
 #[tactic(auto, unfolding(crate::specs::Statements::counted_call))]
 fn counted_call(
     alloc: Global,
-    before: usize,
+    room: usize,
     place: &Place,
     call: Option<Call>,
 ) -> Result<Option<Statement>, TreeFault>
-    ensures { Gives result (counted_call before place.now call) }
+    ensures { Gives result (counted_call room place.now call) }
 {
     let Some(call) = call else {
         return Ok(None);
     };
-    one_more(alloc, before, place)?;
+    one_more(alloc, room, place)?;
     Ok(Some(statement(alloc, place, StatementKind::Call(call))?))
 }
 
@@ -50,17 +50,17 @@ fn word_at(
     alloc: Global,
     site: &SiteRef<'_>,
     section: Section,
-    before: usize,
+    room: usize,
     place: &Place,
     word: &[u8],
 ) -> Result<Option<Statement>, TreeFault>
-    ensures { Gives result (word_at (site_of site.now) section before place.now word.now) }
+    ensures { Gives result (word_at (site_of site.now) section room place.now word.now) }
 {
     if is_later_word(word) {
         return refuse(alloc, place, Wrong::NotBuilt);
     }
     let call = call_at(alloc, site.root, site.instances, section, place, word)?;
-    counted_call(alloc, before, place, call)
+    counted_call(alloc, room, place, call)
 }
 
 /// Whether an item is a pair.
@@ -120,14 +120,14 @@ fn call_block_at(
 fn update_statement(
     alloc: Global,
     site: &SiteRef<'_>,
-    before: usize,
+    room: usize,
     place: &Place,
     name: &Option<Word>,
     body: &[Node],
 ) -> Result<Option<Statement>, TreeFault>
-    ensures { Gives result (update_statement (site_of site.now) before place.now name.now body.now) }
+    ensures { Gives result (update_statement (site_of site.now) room place.now name.now body.now) }
 {
-    let edit = update_at(alloc, site.dict, before, place, name, body)?;
+    let edit = update_at(alloc, site.dict, room, place, name, body)?;
     Ok(Some(statement(alloc, place, StatementKind::Update(edit))?))
 }
 
@@ -137,16 +137,16 @@ fn block_at(
     alloc: Global,
     site: &SiteRef<'_>,
     section: Section,
-    before: usize,
+    room: usize,
     place: &Place,
     kind: &[u8],
     name: &Option<Word>,
     body: &[Node],
 ) -> Result<Option<Statement>, TreeFault>
-    ensures { Gives result (block_at (site_of site.now) section before place.now kind.now name.now body.now) }
+    ensures { Gives result (block_at (site_of site.now) section room place.now kind.now name.now body.now) }
 {
     if kind.eq_ignore_ascii_case(b"update") {
-        update_statement(alloc, site, before, place, name, body)
+        update_statement(alloc, site, room, place, name, body)
     } else if is_later_block(kind) {
         refuse(alloc, place, Wrong::NotBuilt)
     } else {
@@ -154,16 +154,16 @@ fn block_at(
     }
 }
 
-/// The statement of a node, before which so many stand in the server; none where it counts as not written.
+/// The statement of a node, where the server has room for so many more; none where it counts as not written.
 #[tactic(auto, unfolding(crate::specs::Statements::statement_at))]
 pub(crate) fn statement_at(
     alloc: Global,
     site: &SiteRef<'_>,
     section: Section,
-    before: usize,
+    room: usize,
     node: &Node,
 ) -> Result<Option<Statement>, TreeFault>
-    ensures { Gives result (statement_at (site_of site.now) section before node.now) }
+    ensures { Gives result (statement_at (site_of site.now) section room node.now) }
 {
     match &node.item {
         Item::Pair(_, _, _) => refuse(alloc, &node.place, Wrong::BadAction),
@@ -172,7 +172,7 @@ pub(crate) fn statement_at(
                 alloc,
                 site,
                 section,
-                before,
+                room,
                 &node.place,
                 word.text.as_slice(),
             )
@@ -181,11 +181,56 @@ pub(crate) fn statement_at(
             alloc,
             site,
             section,
-            before,
+            room,
             &node.place,
             kind.text.as_slice(),
             name,
             body.as_slice(),
         ),
     }
+}
+
+/// One more statement at the end, where it counts as written.
+fn push_statement(statements: &mut Statements, statement: Option<Statement>) -> Result<(), NoMemory>
+    ensures { OnOk result (statements.new ≡ and_also statements.old statement) }
+{
+    match statement {
+        None => Ok(()),
+        Some(statement) => Ok(statements.push(statement)?),
+    }
+}
+
+/// The statements with that of one more node. After a fault they are given up.
+#[tactic(auto, unfolding(crate::specs::Statements::with_statement))]
+fn with_statement(
+    alloc: Global,
+    site: &SiteRef<'_>,
+    section: Section,
+    room: usize,
+    statements: &mut Statements,
+    node: &Node,
+) -> Result<(), TreeFault>
+    ensures { Leaves result (with_statement (site_of site.now) section room statements.old node.now) statements.new }
+{
+    let room = room.saturating_sub(statements.len());
+    let statement = statement_at(alloc, site, section, room, node)?;
+    push_statement(statements, statement)?;
+    Ok(())
+}
+
+/// The statements of a section's nodes, in order.
+pub(crate) fn statements_of(
+    alloc: Global,
+    site: &SiteRef<'_>,
+    section: Section,
+    room: usize,
+    nodes: &[Node],
+) -> Result<Statements, TreeFault>
+    ensures { Gives result (statements_of (site_of site.now) section room nodes.now) }
+{
+    let mut statements = Statements::new(alloc);
+    for node in nodes {
+        with_statement(alloc, site, section, room, &mut statements, node)?;
+    }
+    Ok(statements)
 }

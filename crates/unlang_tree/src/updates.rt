@@ -194,19 +194,19 @@ fn list_at(alloc: Global, place: &Place, name: &Option<Word>) -> Result<(), Tree
     }
 }
 
-/// The edit of an update, before which so many statements stand in the server.
+/// The edit of an update, where the server has room for so many statements more.
 #[tactic(auto, unfolding(crate::specs::Updates::update_at))]
 pub(crate) fn update_at(
     alloc: Global,
     dict: &Dict,
-    before: usize,
+    room: usize,
     place: &Place,
     name: &Option<Word>,
     lines: &[Node],
 ) -> Result<Edit, TreeFault>
-    ensures { Gives result (update_at dict.now before place.now name.now lines.now) }
+    ensures { Gives result (update_at dict.now room place.now name.now lines.now) }
 {
     list_at(alloc, place, name)?;
-    one_more(alloc, before, place)?;
+    one_more(alloc, room, place)?;
     edit_of(alloc, dict, place, lines)
 }
