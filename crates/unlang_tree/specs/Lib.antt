@@ -8,3 +8,4 @@ pub mod Sites
 pub mod Statements
 pub mod Sections
 pub mod Policies
+pub mod Written

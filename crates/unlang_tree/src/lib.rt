@@ -9,6 +9,7 @@
 mod calls;
 mod fault;
 mod instances;
+mod laws;
 mod method_set;
 mod policies;
 mod refusal;
@@ -23,6 +24,7 @@ mod words;
 
 pub use fault::{AddFault, TreeFault};
 pub use instances::Instances;
+pub use laws::{the_first_unknown_word_is_the_fault, written_calls_are_read};
 pub use method_set::MethodSet;
 pub use policies::{Policies, SectionTree, Sections, ServerTree, Subsection, Subsections};
 pub use statement::{Call, Override, Overrides, Statement, StatementKind, Statements};
