@@ -21,23 +21,30 @@ fn placed(alloc: Global, place: &Place, name: &[u8], word: &[u8]) -> Result<Vec<
 }
 
 /// A fault of policies.
-pub fn fault_text(alloc: Global, fault: TreeFault) -> Result<Vec<u8>, NoMemory> {
-    match &fault {
-        TreeFault::UnknownModule(place, word) => {
-            placed(alloc, place, b"UnknownModule", word.as_slice())
-        }
-        TreeFault::NoSuchMethod(place) => placed(alloc, place, b"NoSuchMethod", b""),
-        TreeFault::UnknownKeyword(place) => placed(alloc, place, b"UnknownKeyword", b""),
-        TreeFault::BadAction(place) => placed(alloc, place, b"BadAction", b""),
-        TreeFault::BadUpdate(place) => placed(alloc, place, b"BadUpdate", b""),
-        TreeFault::BadCondition(place) => placed(alloc, place, b"BadCondition", b""),
-        TreeFault::BadPattern(place) => placed(alloc, place, b"BadPattern", b""),
-        TreeFault::BadExpansion(place) => placed(alloc, place, b"BadExpansion", b""),
-        TreeFault::PolicyLoop(place) => placed(alloc, place, b"PolicyLoop", b""),
-        TreeFault::TooDeep(place) => placed(alloc, place, b"TooDeep", b""),
-        TreeFault::TooMany(place) => placed(alloc, place, b"TooMany", b""),
-        TreeFault::NotBuilt(place) => placed(alloc, place, b"NotBuilt", b""),
-        TreeFault::NoMemory => Err(NoMemory),
+pub fn fault_text(alloc: Global, fault: &TreeFault) -> Result<Vec<u8>, NoMemory> {
+    let (name, place, word) = parts_of(fault);
+    match place {
+        Some(place) => placed(alloc, place, name, word),
+        None => Err(NoMemory),
+    }
+}
+
+/// A fault's name, its place, and the word that it has.
+fn parts_of(fault: &TreeFault) -> (&'static [u8], Option<&Place>, &[u8]) {
+    match fault {
+        TreeFault::UnknownModule(place, word) => (b"UnknownModule", Some(place), word.as_slice()),
+        TreeFault::NoSuchMethod(place) => (b"NoSuchMethod", Some(place), &[]),
+        TreeFault::UnknownKeyword(place) => (b"UnknownKeyword", Some(place), &[]),
+        TreeFault::BadAction(place) => (b"BadAction", Some(place), &[]),
+        TreeFault::BadUpdate(place) => (b"BadUpdate", Some(place), &[]),
+        TreeFault::BadCondition(place) => (b"BadCondition", Some(place), &[]),
+        TreeFault::BadPattern(place) => (b"BadPattern", Some(place), &[]),
+        TreeFault::BadExpansion(place) => (b"BadExpansion", Some(place), &[]),
+        TreeFault::PolicyLoop(place) => (b"PolicyLoop", Some(place), &[]),
+        TreeFault::TooDeep(place) => (b"TooDeep", Some(place), &[]),
+        TreeFault::TooMany(place) => (b"TooMany", Some(place), &[]),
+        TreeFault::NotBuilt(place) => (b"NotBuilt", Some(place), &[]),
+        TreeFault::NoMemory => (b"NoMemory", None, &[]),
     }
 }
 
@@ -51,9 +58,9 @@ pub fn add_fault_text(alloc: Global, fault: AddFault) -> Result<Vec<u8>, NoMemor
 }
 
 /// A fault of the configuration's text, which no case here is about.
-pub fn conf_fault_text(alloc: Global, fault: ConfFault) -> Result<Vec<u8>, NoMemory> {
-    match fault {
-        ConfFault::NoMemory => Err(NoMemory),
-        _ => Ok(Vec::from_slice(alloc, b"a fault of the text")?),
+pub fn conf_fault_text(alloc: Global, fault: &ConfFault) -> Result<Vec<u8>, NoMemory> {
+    if let ConfFault::NoMemory = fault {
+        return Err(NoMemory);
     }
+    Ok(Vec::from_slice(alloc, b"a fault of the text")?)
 }

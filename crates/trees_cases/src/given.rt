@@ -24,12 +24,10 @@ const SECTIONS: [&[u8]; 6] = [
 pub fn methods_of(sections: &[&[u8]]) -> MethodSet {
     let mut methods = [false; 6];
     for section in sections {
-        let mut place = 0usize;
-        while place < 6 {
+        for place in 0..6usize {
             if *section == SECTIONS[place] || *section == b"all".as_slice() {
                 methods[place] = true;
             }
-            place += 1;
         }
     }
     MethodSet { methods }
