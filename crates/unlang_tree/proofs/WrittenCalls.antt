@@ -1,5 +1,5 @@
 -- Written calls are read.
-use Rattle.std.proofs.Common.{◌≡◌, ℕ, suc, ◌+◌, ◌-◌, ◌<◌, ◌≤◌, Bool, true, false, not, ◌&&◌, nat_lt, lt-ltb, if◌then◌else◌, List, [], ◌∷◌, ◌++◌, length, length-append, Option, Some, None, Result, Ok, Err, refl, sym, ap, ◌∙◌, arith, append_assoc}
+use Rattle.std.proofs.Common.{codes, ◌≡◌, ℕ, suc, ◌+◌, ◌-◌, ◌<◌, ◌≤◌, Bool, true, false, not, ◌&&◌, nat_lt, lt-ltb, if◌then◌else◌, List, [], ◌∷◌, ◌++◌, length, length-append, Option, Some, None, Result, Ok, Err, refl, sym, ap, ◌∙◌, arith, append_assoc}
 use Rattle.std.proofs.lemmas.List.{append-nil}
 use Rattle.rad_outside.specs.declared.files.Place.{Place}
 use Rattle.rad_conf.specs.declared.tree.Quote.TheVariants.{Bare}
@@ -16,11 +16,17 @@ use Rattle.unlang_tree.specs.declared.statement.Statement.{Statement}
 use Rattle.unlang_tree.specs.declared.statement.StatementKind.TheVariants as kinds
 use Rattle.unlang_tree.specs.Instances.{number_of}
 use Rattle.unlang_tree.specs.Readings.{one_more, after_each}
-use Rattle.unlang_tree.specs.Words.{is_one_of, later_words}
+use Rattle.unlang_tree.specs.Words.{is_one_of, later_words, section_of}
 use Rattle.unlang_tree.specs.Calls.{is_policy, can_be_called, call_of, is_optional, is_there, call_at}
 use Rattle.unlang_tree.specs.Sites.{Site}
 use Rattle.unlang_tree.specs.Statements.{counted_call, word_at, block_at, statement_at, and_also, with_statement, statements_of}
-use Rattle.unlang_tree.specs.Written.{IsWord, IsFree, IsCallable, call_from, Spell, nothing, by_name, by_dash, passed_over, IsUnknown}
+use Rattle.rad_words.specs.declared.sections.Section.TheVariants as which
+use Rattle.unlang_tree.specs.declared.policies.SectionTree.{SectionTree}
+use Rattle.unlang_tree.specs.declared.policies.ServerTree.{ServerTree}
+use Rattle.unlang_tree.specs.declared.servers.Known.{Known}
+use Rattle.unlang_tree.specs.Sections.{section_block, with_authorize, with_section, with_item, server_of}
+use Rattle.unlang_tree.specs.Policies.{server_block, with_server, servers_of}
+use Rattle.unlang_tree.specs.Written.{IsWord, IsBlock, IsFree, IsCallable, call_from, Spell, nothing, by_name, by_dash, passed_over, IsUnknown}
 
 module _ (site : Site) (section : Section) where
   -- a bare word is read as a word
@@ -157,3 +163,44 @@ module _ (site : Site) (section : Section) where
   unknown_found room good calls bad name rest spelled within unknown =
       spelled_read room [] good calls (bad ∷ rest) spelled (omega (arith, within))
       ∙ step_wrong room calls bad (fault.UnknownModule bad.place name) rest (statement_of_unknown (room - length calls) bad name unknown)
+
+module _ (site : Site) where
+  section_read : (node : Node) (nodes : List Node) → IsBlock node (codes "authorize") None nodes → section_block node ≡ Some (which.Authorize, nodes)
+  unfolding section_of
+  section_read node nodes e = rw (e, section_block) refl
+
+  abbrev authorize_of : List Statement → SectionTree
+  authorize_of calls = record { section = which.Authorize; statements = calls; subsections = [] }
+
+  authorize_read : (known : Known) (nodes : List Node) (calls : List Statement) → Spell site which.Authorize nodes calls → length calls ≤ known.room
+      → with_authorize site known nodes ≡ Ok (record { sections = known.sections ++ authorize_of calls ∷ []; room = known.room - length calls })
+  unfolding with_authorize
+  authorize_read known nodes calls spelled within =
+      ap (λ r. r >>= λ (statements : List Statement). Ok (let next : Known = record { sections = known.sections ++ authorize_of statements ∷ []; room = known.room - length statements } in next))
+      (calls_read site which.Authorize known.room nodes calls spelled within)
+
+  item_read : (known : Known) (node : Node) (nodes : List Node) (calls : List Statement) → IsBlock node (codes "authorize") None nodes
+      → Spell site which.Authorize nodes calls → length calls ≤ known.room
+      → with_item site known node ≡ Ok (record { sections = known.sections ++ authorize_of calls ∷ []; room = known.room - length calls })
+  unfolding with_item with_section
+  item_read known node nodes calls e spelled within = rw (section_read node nodes e, with_item) (authorize_read known nodes calls spelled within)
+
+  server_read : (name : List ℕ) (node : Node) (nodes : List Node) (calls : List Statement) → IsBlock node (codes "authorize") None nodes
+      → Spell site which.Authorize nodes calls → length calls ≤ 65536
+      → server_of site name (node ∷ []) ≡ Ok (record { name = name; sections = authorize_of calls ∷ [] })
+  unfolding server_of after_each
+  server_read name node nodes calls e spelled within =
+      rw (item_read (record { sections = []; room = 65536 }) node nodes calls e spelled within) refl
+
+  server_found : (server : Node) (name : Word) (items : List Node) → IsBlock server (codes "server") (Some name) items → server_block server ≡ Some (name.text, items)
+  server_found server name items e = rw (e, server_block) refl
+
+  -- a site with one server that has one section authorize
+  pub site_read : (server authorize : Node) (name : Word) (nodes : List Node) (calls : List Statement) → site.root ≡ server ∷ []
+      → IsBlock server (codes "server") (Some name) (authorize ∷ []) → IsBlock authorize (codes "authorize") None nodes
+      → Spell site which.Authorize nodes calls → length calls ≤ 65536
+      → servers_of site ≡ Ok (record { name = name.text; sections = authorize_of calls ∷ [] } ∷ [])
+  unfolding after_each with_server
+  site_read server authorize name nodes calls root block inner spelled within =
+      ap (after_each (with_server site) []) root
+      ∙ rw (server_found server name (authorize ∷ []) block, with_server) (rw (server_read name.text authorize nodes calls inner spelled within) refl)

@@ -1,7 +1,8 @@
 -- What is written in a section, in an operator's words: calls of instances by name, one after another. After the manual page
 -- unlang(5).
-use Rattle.std.specs.Prelude.{◌≡◌, ℕ, true, false, List, [], ◌∷◌, Some, None}
+use Rattle.std.specs.Prelude.{◌≡◌, ℕ, true, false, List, [], ◌∷◌, Option, Some, None}
 use Rattle.rad_conf.specs.declared.tree.Quote.TheVariants.{Bare}
+use Rattle.rad_conf.specs.declared.tree.Word.{Word}
 use Rattle.rad_conf.specs.declared.tree.Node.{Node}
 use Rattle.rad_conf.specs.declared.tree.Item.{out-Item}
 use Rattle.rad_conf.specs.declared.tree.Item.TheOpen as level
@@ -16,6 +17,10 @@ use Rattle.unlang_tree.specs.Sites.{Site}
 -- A node is this bare word.
 abbrev pub IsWord : Node → List ℕ → Type 0
 IsWord node word = out-Item node.item ≡ level.Name (record { quote = Bare; text = word })
+
+-- A node is a block of this kind, name and body.
+abbrev pub IsBlock : Node → List ℕ → Option Word → List Node → Type 0
+IsBlock node kind name body = out-Item node.item ≡ level.Block (record { quote = Bare; text = kind }) name body
 
 -- A word is free to be a name: it is no statement of its own, and no policy has it.
 pub record IsFree (site : Site) (section : Section) (word name : List ℕ) : Type 0 where

@@ -24,7 +24,9 @@ mod words;
 
 pub use fault::{AddFault, TreeFault};
 pub use instances::Instances;
-pub use laws::{the_first_unknown_word_is_the_fault, written_calls_are_read};
+pub use laws::{
+    a_written_site_is_read, the_first_unknown_word_is_the_fault, written_calls_are_read,
+};
 pub use method_set::MethodSet;
 pub use policies::{Policies, SectionTree, Sections, ServerTree, Subsection, Subsections};
 pub use statement::{Call, Override, Overrides, Statement, StatementKind, Statements};
