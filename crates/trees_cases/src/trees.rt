@@ -1,0 +1,112 @@
+//! Source trees as text: each server as `NAME{..}`, in it each section as its name, its statements and its subsections
+//! and a semicolon. A statement is ` LINE:call NUMBER`, by the number of the instance, or ` LINE:Auth-Type NAME`. A
+//! subsection is ` [NAME..]` with its statements. No servers at all are `nothing`.
+
+use rad_outside::NoMemory;
+use rad_value::{Edit, EditOp, ListName, Value};
+use rad_words::{Section, Space};
+use shared_cases::push_number;
+use std::alloc::Global;
+use unlang_tree::{Policies, SectionTree, Statement, StatementKind};
+
+/// The text of all servers.
+pub fn policies_text(alloc: Global, policies: &Policies) -> Result<Vec<u8>, NoMemory> {
+    let mut text = Vec::new(alloc);
+    for server in policies.servers() {
+        text.extend_from_slice(server.name.as_slice())?;
+        text.push(b'{')?;
+        for section in server.sections.as_slice() {
+            push_section(alloc, &mut text, section)?;
+        }
+        text.push(b'}')?;
+    }
+    if text.is_empty() {
+        text.extend_from_slice(b"nothing")?;
+    }
+    Ok(text)
+}
+
+fn word_of(section: Section) -> &'static [u8] {
+    match section {
+        Section::Authorize => b"authorize",
+        Section::Authenticate => b"authenticate",
+        Section::Session => b"session",
+        Section::Preacct => b"preacct",
+        Section::Accounting => b"accounting",
+        Section::PostAuth => b"post-auth",
+    }
+}
+
+fn push_section(alloc: Global, to: &mut Vec<u8>, section: &SectionTree) -> Result<(), NoMemory> {
+    to.extend_from_slice(word_of(section.section))?;
+    push_statements(alloc, to, section.statements.as_slice())?;
+    for subsection in section.subsections.as_slice() {
+        to.extend_from_slice(b" [")?;
+        to.extend_from_slice(subsection.name.as_slice())?;
+        push_statements(alloc, to, subsection.statements.as_slice())?;
+        to.push(b']')?;
+    }
+    to.push(b';')?;
+    Ok(())
+}
+
+/// Writes statements; of more than eight the first, the last and their number alone.
+fn push_statements(
+    alloc: Global,
+    to: &mut Vec<u8>,
+    statements: &[Statement],
+) -> Result<(), NoMemory> {
+    let count = statements.len();
+    if count <= 8 {
+        for statement in statements {
+            push_statement(alloc, to, statement)?;
+        }
+        return Ok(());
+    }
+    if let (Some(first), Some(last)) = (statements.first(), statements.last()) {
+        push_statement(alloc, to, first)?;
+        to.extend_from_slice(b" ..")?;
+        push_statement(alloc, to, last)?;
+        to.extend_from_slice(b" of ")?;
+        push_number(alloc, to, count as u64)?;
+    }
+    Ok(())
+}
+
+fn push_statement(alloc: Global, to: &mut Vec<u8>, statement: &Statement) -> Result<(), NoMemory> {
+    to.push(b' ')?;
+    push_number(alloc, to, u64::from(statement.place.line))?;
+    match &statement.kind {
+        StatementKind::Call(call) => {
+            to.extend_from_slice(b":call ")?;
+            push_number(alloc, to, u64::from(call.instance))?;
+            if !call.overrides.is_empty() {
+                to.extend_from_slice(b" with actions")?;
+            }
+            Ok(())
+        }
+        StatementKind::Update(edit) => {
+            to.extend_from_slice(b":")?;
+            push_edit(to, edit)
+        }
+    }
+}
+
+/// Writes an edit that sets Auth-Type in the control list, and `another edit` for any other.
+fn push_edit(to: &mut Vec<u8>, edit: &Edit) -> Result<(), NoMemory> {
+    match &edit.value {
+        Value::Text(name) if is_auth_type(edit) => {
+            to.extend_from_slice(b"Auth-Type ")?;
+            to.extend_from_slice(name.as_slice())?;
+            Ok(())
+        }
+        _ => Ok(to.extend_from_slice(b"another edit")?),
+    }
+}
+
+fn is_auth_type(edit: &Edit) -> bool {
+    edit.list == ListName::Control
+        && edit.op == EditOp::Set
+        && edit.attr.space == Space::Internal
+        && edit.attr.number == 1
+}

@@ -1,0 +1,3 @@
+mod InstanceLemmas
+mod Walks
+mod WrittenCalls

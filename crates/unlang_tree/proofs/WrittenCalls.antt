@@ -1,0 +1,206 @@
+-- Written calls are read.
+use Rattle.std.proofs.Common.{codes, ◌≡◌, ℕ, suc, ◌+◌, ◌-◌, ◌<◌, ◌≤◌, Bool, true, false, not, ◌&&◌, nat_lt, lt-ltb, if◌then◌else◌, List, [], ◌∷◌, ◌++◌, length, length-append, Option, Some, None, Result, Ok, Err, refl, sym, ap, ◌∙◌, arith, append_assoc}
+use Rattle.std.proofs.lemmas.List.{append-nil}
+use Rattle.rad_outside.specs.declared.files.Place.{Place}
+use Rattle.rad_conf.specs.declared.tree.Quote.TheVariants.{Bare}
+use Rattle.rad_conf.specs.declared.tree.Word.{Word}
+use Rattle.rad_conf.specs.declared.tree.Node.{Node}
+use Rattle.rad_conf.specs.declared.tree.Item.{out-Item}
+use Rattle.rad_conf.specs.declared.tree.Item.TheOpen as level
+use Rattle.rad_words.specs.declared.sections.Section.{Section}
+use Rattle.rad_text.specs.Read.{◌>>=◌}
+use Rattle.unlang_tree.specs.declared.fault.TreeFault.{TreeFault}
+use Rattle.unlang_tree.specs.declared.fault.TreeFault.TheVariants as fault
+use Rattle.unlang_tree.specs.declared.statement.Call.{Call}
+use Rattle.unlang_tree.specs.declared.statement.Statement.{Statement}
+use Rattle.unlang_tree.specs.declared.statement.StatementKind.TheVariants as kinds
+use Rattle.unlang_tree.specs.Instances.{number_of}
+use Rattle.unlang_tree.specs.Readings.{one_more, after_each}
+use Rattle.unlang_tree.specs.Words.{is_one_of, later_words, section_of}
+use Rattle.unlang_tree.specs.Calls.{is_policy, can_be_called, call_of, is_optional, is_there, call_at}
+use Rattle.unlang_tree.specs.Sites.{Site}
+use Rattle.unlang_tree.specs.Statements.{counted_call, word_at, block_at, statement_at, and_also, with_statement, statements_of}
+use Rattle.rad_words.specs.declared.sections.Section.TheVariants as which
+use Rattle.unlang_tree.specs.declared.policies.SectionTree.{SectionTree}
+use Rattle.unlang_tree.specs.declared.policies.ServerTree.{ServerTree}
+use Rattle.unlang_tree.specs.declared.servers.Known.{Known}
+use Rattle.unlang_tree.specs.Sections.{section_block, with_authorize, with_section, with_item, server_of}
+use Rattle.unlang_tree.specs.Policies.{server_block, with_server, servers_of}
+use Rattle.unlang_tree.specs.Written.{IsWord, IsBlock, IsFree, IsCallable, call_from, Spell, nothing, by_name, by_dash, passed_over, IsUnknown}
+
+module _ (site : Site) (section : Section) where
+  -- a bare word is read as a word
+  word_read : (room : ℕ) (node : Node) (word : List ℕ) → IsWord node word → statement_at site section room node ≡ word_at site section room node.place word
+  unfolding statement_at
+  word_read room node word e =
+      ap (λ item. elim item [
+        | level.Pair left operator right ↦ Err (fault.BadAction node.place)
+        | level.Name w ↦ word_at site section room node.place w.text
+        | level.Block kind name body ↦ block_at site section room node.place kind.text name body
+      ]) e
+
+  abbrev plain_call : ℕ → Call
+  plain_call number = record { instance = number; overrides = [] }
+
+  call_read : (place : Place) (name : List ℕ) (number : ℕ) → is_policy site.root section name ≡ false → IsCallable site section name number
+      → call_of site.root site.instances section place name ≡ Ok (plain_call number)
+  unfolding call_of
+  call_read place name number free callable = rw free (rw callable.numbered (rw callable.method refl))
+
+  unknown_read : (place : Place) (name : List ℕ) → is_policy site.root section name ≡ false → number_of site.instances name ≡ None
+      → call_of site.root site.instances section place name ≡ Err (fault.UnknownModule place name)
+  unfolding call_of
+  unknown_read place name free none = rw free (rw none refl)
+
+  -- `name`
+  name_called : (place : Place) (name : List ℕ) → is_optional name ≡ false
+      → call_at site.root site.instances section place name ≡ (call_of site.root site.instances section place name >>= λ call. Ok (Some call))
+  unfolding call_at
+  name_called place name plain = rw plain refl
+
+  -- `-name`, where there is the instance
+  optional_called : (place : Place) (name : List ℕ) (number : ℕ) → is_policy site.root section name ≡ false → IsCallable site section name number
+      → call_at site.root site.instances section place (45 ∷ name) ≡ Ok (Some (plain_call number))
+  unfolding call_at
+  optional_called place name number free callable = rw free (rw callable.numbered (ap (λ r. r >>= λ call. Ok (Some call)) (call_read place name number free callable)))
+
+  -- `-name`, where there is none
+  absent_called : (place : Place) (name : List ℕ) → is_policy site.root section name ≡ false → number_of site.instances name ≡ None
+      → call_at site.root site.instances section place (45 ∷ name) ≡ Ok None
+  unfolding call_at
+  absent_called place name free none = rw free (rw none refl)
+
+  counted : (room : ℕ) (place : Place) (call : Call) → 0 < room → counted_call room place (Some call) ≡ Ok (Some (record { place = place; kind = kinds.Call call }))
+  unfolding counted_call one_more
+  counted room place call some = rw (lt-ltb 0 room some) refl
+
+  -- a word whose call is known
+  word_called : (room : ℕ) (node : Node) (word : List ℕ) (call : Option Call) → IsWord node word → is_one_of later_words word ≡ false
+      → call_at site.root site.instances section node.place word ≡ Ok call → statement_at site section room node ≡ counted_call room node.place call
+  unfolding word_at
+  word_called room node word call spelled free e = word_read room node word spelled ∙ rw free (rw e refl)
+
+  word_wrong : (room : ℕ) (node : Node) (word : List ℕ) (wrong : TreeFault) → IsWord node word → is_one_of later_words word ≡ false
+      → call_at site.root site.instances section node.place word ≡ Err wrong → statement_at site section room node ≡ Err wrong
+  unfolding word_at
+  word_wrong room node word wrong spelled free e = word_read room node word spelled ∙ rw free (rw e refl)
+
+  none_counted : (room : ℕ) (place : Place) → counted_call room place None ≡ Ok None
+  unfolding counted_call
+  none_counted room place = refl
+
+  statement_of_name : (room : ℕ) (node : Node) (name : List ℕ) (number : ℕ) → IsWord node name → is_optional name ≡ false → IsFree site section name name
+      → IsCallable site section name number → 0 < room → statement_at site section room node ≡ Ok (Some (call_from node number))
+  statement_of_name room node name number spelled plain free callable some =
+      word_called room node name (Some (plain_call number)) spelled free.no_statement
+      (name_called node.place name plain ∙ ap (λ r. r >>= λ call. Ok (Some call)) (call_read node.place name number free.no_policy callable))
+      ∙ counted room node.place (plain_call number) some
+
+  statement_of_optional : (room : ℕ) (node : Node) (name : List ℕ) (number : ℕ) → IsWord node (45 ∷ name) → IsFree site section (45 ∷ name) name
+      → IsCallable site section name number → 0 < room → statement_at site section room node ≡ Ok (Some (call_from node number))
+  statement_of_optional room node name number spelled free callable some =
+      word_called room node (45 ∷ name) (Some (plain_call number)) spelled free.no_statement (optional_called node.place name number free.no_policy callable)
+      ∙ counted room node.place (plain_call number) some
+
+  statement_of_absent : (room : ℕ) (node : Node) (name : List ℕ) → IsWord node (45 ∷ name) → IsFree site section (45 ∷ name) name
+      → number_of site.instances name ≡ None → statement_at site section room node ≡ Ok None
+  statement_of_absent room node name spelled free none =
+      word_called room node (45 ∷ name) None spelled free.no_statement (absent_called node.place name free.no_policy none) ∙ none_counted room node.place
+
+  pub statement_of_unknown : (room : ℕ) (node : Node) (name : List ℕ) → IsUnknown site section node name → statement_at site section room node ≡ Err (fault.UnknownModule node.place name)
+  statement_of_unknown room node name unknown =
+      word_wrong room node name (fault.UnknownModule node.place name) unknown.spelled unknown.free.no_statement
+      (name_called node.place name unknown.plain ∙ ap (λ r. r >>= λ call. Ok (Some call)) (unknown_read node.place name unknown.free.no_policy unknown.none))
+
+  -- one node more among the statements that are known
+  step_ok : (room : ℕ) (known : List Statement) (node : Node) (more : Option Statement) (rest : List Node)
+      → statement_at site section (room - length known) node ≡ Ok more
+      → after_each (with_statement site section room) known (node ∷ rest) ≡ after_each (with_statement site section room) (and_also known more) rest
+  unfolding after_each with_statement
+  step_ok room known node more rest e = rw e refl
+
+  step_wrong : (room : ℕ) (known : List Statement) (node : Node) (wrong : TreeFault) (rest : List Node)
+      → statement_at site section (room - length known) node ≡ Err wrong
+      → after_each (with_statement site section room) known (node ∷ rest) ≡ Err wrong
+  unfolding after_each with_statement
+  step_wrong room known node wrong rest e = rw e refl
+
+  -- the calls that nodes spell stand behind what is known, and what follows them is read behind these
+  pub spelled_read : (room : ℕ) (known : List Statement) (nodes : List Node) (calls : List Statement) (rest : List Node) → Spell site section nodes calls
+      → length known + length calls ≤ room
+      → after_each (with_statement site section room) known (nodes ++ rest) ≡ after_each (with_statement site section room) (known ++ calls) rest
+  spelled_read room known _ _ rest nothing within = ap (λ k. after_each (with_statement site section room) k rest) (sym (append-nil known))
+  spelled_read room known _ _ rest (by_name node nodes calls name number spelled plain free callable more) within =
+      let s = call_from node number in
+      let some : 0 < room - length known = omega (arith, within) in
+      let fits : length (known ++ s ∷ []) + length calls ≤ room = omega (arith, length-append known (s ∷ []), within) in
+      let same : (known ++ s ∷ []) ++ calls ≡ known ++ s ∷ calls = simp append_assoc in
+      step_ok room known node (Some s) (nodes ++ rest) (statement_of_name (room - length known) node name number spelled plain free callable some)
+      ∙ spelled_read room (known ++ s ∷ []) nodes calls rest more fits
+      ∙ ap (λ k. after_each (with_statement site section room) k rest) same
+  spelled_read room known _ _ rest (by_dash node nodes calls name number spelled free callable more) within =
+      let s = call_from node number in
+      let some : 0 < room - length known = omega (arith, within) in
+      let fits : length (known ++ s ∷ []) + length calls ≤ room = omega (arith, length-append known (s ∷ []), within) in
+      let same : (known ++ s ∷ []) ++ calls ≡ known ++ s ∷ calls = simp append_assoc in
+      step_ok room known node (Some s) (nodes ++ rest) (statement_of_optional (room - length known) node name number spelled free callable some)
+      ∙ spelled_read room (known ++ s ∷ []) nodes calls rest more fits
+      ∙ ap (λ k. after_each (with_statement site section room) k rest) same
+  spelled_read room known _ _ rest (passed_over node nodes calls name spelled free none more) within =
+      step_ok room known node None (nodes ++ rest) (statement_of_absent (room - length known) node name spelled free none)
+      ∙ spelled_read room known nodes calls rest more within
+
+  -- written calls are read
+  pub calls_read : (room : ℕ) (nodes : List Node) (calls : List Statement) → Spell site section nodes calls → length calls ≤ room → statements_of site section room nodes ≡ Ok calls
+  unfolding after_each
+  calls_read room nodes calls spelled within =
+      ap (after_each (with_statement site section room) []) (sym (append-nil nodes))
+      ∙ spelled_read room [] nodes calls [] spelled (omega (arith, within))
+
+  -- the first word that calls nothing is the fault
+  pub unknown_found : (room : ℕ) (good : List Node) (calls : List Statement) (bad : Node) (name : List ℕ) (rest : List Node) → Spell site section good calls → length calls ≤ room
+      → IsUnknown site section bad name → statements_of site section room (good ++ bad ∷ rest) ≡ Err (fault.UnknownModule bad.place name)
+  unknown_found room good calls bad name rest spelled within unknown =
+      spelled_read room [] good calls (bad ∷ rest) spelled (omega (arith, within))
+      ∙ step_wrong room calls bad (fault.UnknownModule bad.place name) rest (statement_of_unknown (room - length calls) bad name unknown)
+
+module _ (site : Site) where
+  section_read : (node : Node) (nodes : List Node) → IsBlock node (codes "authorize") None nodes → section_block node ≡ Some (which.Authorize, nodes)
+  unfolding section_of
+  section_read node nodes e = rw (e, section_block) refl
+
+  abbrev authorize_of : List Statement → SectionTree
+  authorize_of calls = record { section = which.Authorize; statements = calls; subsections = [] }
+
+  authorize_read : (known : Known) (nodes : List Node) (calls : List Statement) → Spell site which.Authorize nodes calls → length calls ≤ known.room
+      → with_authorize site known nodes ≡ Ok (record { sections = known.sections ++ authorize_of calls ∷ []; room = known.room - length calls })
+  unfolding with_authorize
+  authorize_read known nodes calls spelled within =
+      ap (λ r. r >>= λ (statements : List Statement). Ok (let next : Known = record { sections = known.sections ++ authorize_of statements ∷ []; room = known.room - length statements } in next))
+      (calls_read site which.Authorize known.room nodes calls spelled within)
+
+  item_read : (known : Known) (node : Node) (nodes : List Node) (calls : List Statement) → IsBlock node (codes "authorize") None nodes
+      → Spell site which.Authorize nodes calls → length calls ≤ known.room
+      → with_item site known node ≡ Ok (record { sections = known.sections ++ authorize_of calls ∷ []; room = known.room - length calls })
+  unfolding with_item with_section
+  item_read known node nodes calls e spelled within = rw (section_read node nodes e, with_item) (authorize_read known nodes calls spelled within)
+
+  server_read : (name : List ℕ) (node : Node) (nodes : List Node) (calls : List Statement) → IsBlock node (codes "authorize") None nodes
+      → Spell site which.Authorize nodes calls → length calls ≤ 65536
+      → server_of site name (node ∷ []) ≡ Ok (record { name = name; sections = authorize_of calls ∷ [] })
+  unfolding server_of after_each
+  server_read name node nodes calls e spelled within =
+      rw (item_read (record { sections = []; room = 65536 }) node nodes calls e spelled within) refl
+
+  server_found : (server : Node) (name : Word) (items : List Node) → IsBlock server (codes "server") (Some name) items → server_block server ≡ Some (name.text, items)
+  server_found server name items e = rw (e, server_block) refl
+
+  -- a site with one server that has one section authorize
+  pub site_read : (server authorize : Node) (name : Word) (nodes : List Node) (calls : List Statement) → site.root ≡ server ∷ []
+      → IsBlock server (codes "server") (Some name) (authorize ∷ []) → IsBlock authorize (codes "authorize") None nodes
+      → Spell site which.Authorize nodes calls → length calls ≤ 65536
+      → servers_of site ≡ Ok (record { name = name.text; sections = authorize_of calls ∷ [] } ∷ [])
+  unfolding after_each with_server
+  site_read server authorize name nodes calls root block inner spelled within =
+      ap (after_each (with_server site) []) root
+      ∙ rw (server_found server name (authorize ∷ []) block, with_server) (rw (server_read name.text authorize nodes calls inner spelled within) refl)

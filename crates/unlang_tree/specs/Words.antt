@@ -1,0 +1,41 @@
+-- The words of policies, after the manual pages unlang(5) and radiusd.conf(5). Keywords and the names of sections are
+-- compared without regard to ASCII case.
+use Rattle.std.specs.Prelude.{ℕ, Bool, List, [], ◌∷◌, Option, Some, None, codes, if◌then◌else◌}
+use Rattle.std.specs.List.{list_any}
+use Rattle.std.specs.Str.{str_eq_ignore_ascii_case}
+use Rattle.rad_words.specs.declared.sections.Section.{Section}
+use Rattle.rad_words.specs.declared.sections.Section.TheVariants as section
+
+-- The name of a section.
+abbrev pub word_of : Section → List ℕ
+word_of section.Authorize = codes "authorize"
+word_of section.Authenticate = codes "authenticate"
+word_of section.Session = codes "session"
+word_of section.Preacct = codes "preacct"
+word_of section.Accounting = codes "accounting"
+word_of section.PostAuth = codes "post-auth"
+
+-- The section of a name.
+unfoldable pub section_of : List ℕ → Option Section
+section_of word =
+    if str_eq_ignore_ascii_case word (word_of section.Authorize) then Some section.Authorize
+    else (if str_eq_ignore_ascii_case word (word_of section.Authenticate) then Some section.Authenticate
+    else (if str_eq_ignore_ascii_case word (word_of section.Session) then Some section.Session
+    else (if str_eq_ignore_ascii_case word (word_of section.Preacct) then Some section.Preacct
+    else (if str_eq_ignore_ascii_case word (word_of section.Accounting) then Some section.Accounting
+    else (if str_eq_ignore_ascii_case word (word_of section.PostAuth) then Some section.PostAuth
+    else None)))))
+
+-- Whether a word is one of these.
+abbrev pub is_one_of : List (List ℕ) → List ℕ → Bool
+is_one_of words word = list_any (λ (one : List ℕ). str_eq_ignore_ascii_case word one) words
+
+-- The statements that are a word alone and no call. They aren't built yet.
+abbrev pub later_words : List (List ℕ)
+later_words = codes "break" ∷ codes "return" ∷ []
+
+-- The blocks that are statements and no calls, beside `update`. They aren't built yet.
+abbrev pub later_blocks : List (List ℕ)
+later_blocks =
+    codes "group" ∷ codes "redundant" ∷ codes "load-balance" ∷ codes "redundant-load-balance"
+    ∷ codes "if" ∷ codes "elsif" ∷ codes "else" ∷ codes "switch" ∷ codes "foreach" ∷ codes "map" ∷ codes "parallel" ∷ []

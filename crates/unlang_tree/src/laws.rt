@@ -1,0 +1,40 @@
+//! The laws of policies, in the words of whoever writes them. They are facts about the definitions, and the functions do
+//! nothing.
+
+ghost use Rattle.std.specs.Prelude.{◌≡◌, ℕ, ◌≤◌, List, [], ◌∷◌, ◌++◌, length, codes, Some, None, Ok, Err};
+ghost use Rattle.rad_conf.specs.declared.tree.Node.{Node};
+ghost use Rattle.rad_conf.specs.declared.tree.Word.{Word};
+ghost use Rattle.rad_words.specs.declared.sections.Section.{Section as AnySection};
+ghost use Rattle.unlang_tree.specs.declared.statement.Statement.{Statement as AnyStatement};
+ghost use Rattle.unlang_tree.specs.Sites.{Site};
+ghost use Rattle.unlang_tree.specs.Statements.{statements_of};
+ghost use Rattle.unlang_tree.specs.Policies.{servers_of};
+ghost use Rattle.unlang_tree.specs.Written.{IsBlock, Spell, IsUnknown};
+
+use crate::fault::TreeFault;
+use rad_words::Section;
+
+/// A section that is written as calls of instances by their names is read as exactly these calls, in order, each with the
+/// place of its name, wherever the server has room for so many; `-name` is such a call where there is the instance, and
+/// is passed over where there is none.
+pub fn written_calls_are_read()
+    ensures { (site : Site) (section : AnySection) (room : ℕ) (nodes : List Node) (calls : List AnyStatement) → Spell site section nodes calls
+        → length calls ≤ room → statements_of site section room nodes ≡ Ok calls }
+{}
+
+/// The first word behind good calls that calls nothing is the fault of its section, at its place, whatever stands
+/// behind it.
+pub fn the_first_unknown_word_is_the_fault()
+    ensures { (site : Site) (section : AnySection) (room : ℕ) (good : List Node) (calls : List AnyStatement) (bad : Node) (name : List ℕ) (rest : List Node)
+        → Spell site section good calls → length calls ≤ room → IsUnknown site section bad name
+        → statements_of site section room (good ++ bad ∷ rest) ≡ Err (TreeFault.UnknownModule bad.place name) }
+{}
+
+/// A site with one server, `server NAME { authorize { .. } }`, whose section is written as calls of instances, is read as
+/// that server of that name, with these calls in its section authorize and nothing else.
+pub fn a_written_site_is_read()
+    ensures { (site : Site) (server : Node) (authorize : Node) (name : Word) (nodes : List Node) (calls : List AnyStatement)
+        → site.root ≡ server ∷ [] → IsBlock server (codes "server") (Some name) (authorize ∷ []) → IsBlock authorize (codes "authorize") None nodes
+        → Spell site Section.Authorize nodes calls → length calls ≤ 65536
+        → servers_of site ≡ Ok (record { name = name.text; sections = record { section = Section.Authorize; statements = calls; subsections = [] } ∷ [] } ∷ []) }
+{}

@@ -1,0 +1,89 @@
+//! The words of policies.
+
+ghost use Rattle.std.specs.Prelude.{◌≡◌};
+ghost use Rattle.std.specs.List.{list_any};
+ghost use Rattle.std.specs.Str.{str_eq_ignore_ascii_case};
+ghost use Rattle.unlang_tree.specs.Words.{word_of, section_of, is_one_of, later_words, later_blocks};
+
+use rad_words::Section;
+
+/// The name of a section.
+pub(crate) fn word_of(section: Section) -> &'static [u8]
+    ensures { result.now ≡ word_of section }
+{
+    match section {
+        Section::Authorize => b"authorize",
+        Section::Authenticate => b"authenticate",
+        Section::Session => b"session",
+        Section::Preacct => b"preacct",
+        Section::Accounting => b"accounting",
+        Section::PostAuth => b"post-auth",
+    }
+}
+
+fn is_named(word: &[u8], section: Section) -> bool
+    ensures { result ≡ str_eq_ignore_ascii_case word.now (word_of section) }
+{
+    word.eq_ignore_ascii_case(word_of(section))
+}
+
+/// The section of a name.
+#[tactic(auto, unfolding(crate::specs::Words::section_of))]
+pub(crate) fn section_of(word: &[u8]) -> Option<Section>
+    ensures { result ≡ section_of word.now }
+{
+    if is_named(word, Section::Authorize) {
+        Some(Section::Authorize)
+    } else if is_named(word, Section::Authenticate) {
+        Some(Section::Authenticate)
+    } else if is_named(word, Section::Session) {
+        Some(Section::Session)
+    } else if is_named(word, Section::Preacct) {
+        Some(Section::Preacct)
+    } else if is_named(word, Section::Accounting) {
+        Some(Section::Accounting)
+    } else if is_named(word, Section::PostAuth) {
+        Some(Section::PostAuth)
+    } else {
+        None
+    }
+}
+
+/// Whether a word is one of these.
+fn is_one_of(words: &[&[u8]], word: &[u8]) -> bool
+    ensures { result ≡ list_any (λ one. str_eq_ignore_ascii_case word.now one.now) words.now }
+{
+    words.iter().any(|one| word.eq_ignore_ascii_case(one))
+}
+
+/// The statements that are a word alone and no call.
+const LATER_WORDS: [&[u8]; 2] = [b"break", b"return"];
+
+/// Whether a word alone is a statement that isn't built yet.
+pub(crate) fn is_later_word(word: &[u8]) -> bool
+    ensures { result ≡ is_one_of later_words word.now }
+{
+    is_one_of(&LATER_WORDS, word)
+}
+
+/// The blocks that are statements and no calls, beside `update`.
+const LATER_BLOCKS: [&[u8]; 11] = [
+    b"group",
+    b"redundant",
+    b"load-balance",
+    b"redundant-load-balance",
+    b"if",
+    b"elsif",
+    b"else",
+    b"switch",
+    b"foreach",
+    b"map",
+    b"parallel",
+];
+
+/// Whether a block of this kind is a statement that isn't built yet.
+pub(crate) fn is_later_block(kind: &[u8]) -> bool
+    ensures { result ≡ is_one_of later_blocks kind.now }
+{
+    is_one_of(&LATER_BLOCKS, kind)
+}
