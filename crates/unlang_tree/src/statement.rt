@@ -1,0 +1,44 @@
+//! Statements of a section, after unlang(5).
+
+use rad_outside::Place;
+use rad_tables::Action;
+use rad_value::Edit;
+use rad_words::Code;
+use sqlite_items::Items;
+
+/// An action that a call takes on one code, in the place of the default one.
+#[derive(Clone, Copy, Debug)]
+pub struct Override {
+    pub code: Code,
+    pub action: Action,
+}
+
+/// The actions of a call that aren't the default ones, in order; of one code given twice the last counts.
+pub type Overrides = Items<Override>;
+
+/// A call of a module.
+#[derive(Debug, Drop)]
+pub struct Call {
+    /// The number of the instance.
+    pub instance: u32,
+    pub overrides: Overrides,
+}
+
+/// What a statement does.
+#[derive(Debug, Drop)]
+pub enum StatementKind {
+    /// `name`, or `-name` where there is such an instance.
+    Call(Call),
+    /// `update list { line }`
+    Update(Edit),
+}
+
+/// A statement, and where it begins in the configuration.
+#[derive(Debug, Drop)]
+pub struct Statement {
+    pub place: Place,
+    pub kind: StatementKind,
+}
+
+/// Statements, in order.
+pub type Statements = Items<Statement>;
