@@ -47,7 +47,7 @@ impl Instances {
         ensures ok { OnOk result (self.new ≡ self.old ++ record { name = name.now; methods = methods } ∷ []) }
         ensures err { OnErr result (self.new ≡ self.old) }
     {
-        if self.methods.contains_key(name) {
+        if self.methods.get_index_of(name).is_some() {
             return Err(AddFault::Taken);
         }
         let number = self.methods.len();
