@@ -1,0 +1,4 @@
+pub mod Judgement
+pub mod Sections
+pub mod Run
+pub mod Serving
