@@ -15,6 +15,7 @@ use Rattle.mod_base.specs.Meaning.{Meaning}
 use Rattle.unlang_tree.specs.declared.statement.Call.{Call}
 use Rattle.unlang_tree.specs.declared.statement.Override.{Override}
 use Rattle.unlang_tree.specs.declared.statement.Statement.{Statement}
+use Rattle.unlang_tree.specs.declared.statement.StatementKind.{StatementKind}
 use Rattle.unlang_tree.specs.declared.statement.StatementKind.TheVariants as kind
 use Rattle.unlang_tree.specs.declared.policies.ServerTree.{ServerTree}
 use Rattle.unlang_code.specs.declared.judgement.Child.{Child}
@@ -63,45 +64,54 @@ one_child child situation = record { situation = situation; signal = Goes; child
 abbrev pub nothing : Situation → Outcome
 nothing situation = record { situation = situation; signal = Goes; children = [] }
 
--- An update: noop, or fail where the list is full for its edit. It doesn't set the last code.
+-- An update that leaves these lists, or none where a list is full for its edit: noop, or fail and the lists as they were.
+-- It doesn't set the last code.
+abbrev pub updated_to : Section → Option PairLists → Situation → Outcome
+updated_to where_it_stands None situation = one_child (child_of where_it_stands Plain [] code.Fail) situation
+updated_to where_it_stands (Some lists) situation = one_child (child_of where_it_stands Plain [] code.Noop) (in_scope (with_lists lists situation.scope) situation)
+
+-- An update by an edit.
 abbrev pub updated : Section → Edit → Situation → Outcome
-updated section edit situation = elim (tried situation.scope.lists edit) [
-  | None ↦ one_child (child_of section Plain [] code.Fail) situation
-  | Some lists ↦ one_child (child_of section Plain [] code.Noop) (in_scope (with_lists lists situation.scope) situation)
-]
+updated section edit situation = updated_to section (tried situation.scope.lists edit) situation
 
 -- A call that came to a situation and a code: it is the last code, and the code of a child.
 abbrev pub called_with : Section → List Override → Situation × Code → Outcome
 called_with section overrides done = one_child (child_of section Plain overrides done.1) (in_scope (with_last done.1 done.0.scope) done.0)
 
--- A call of the module of a number, of which there is one.
+-- A call of a module, where there is one.
+abbrev pub called_of : {M : Type 0} → Meaning M → Definitions → Section → List Override → Option M → Situation → Outcome
+called_of meaning dict where_it_stands overrides None situation = nothing situation
+called_of meaning dict where_it_stands overrides (Some m) situation = called_with where_it_stands overrides (meaning.does m dict where_it_stands situation)
+
+-- A call of the module of a number.
 abbrev pub called : {M : Type 0} → Meaning M → List M → Definitions → Section → Call → Situation → Outcome
-called meaning stack dict section call situation = elim (slice_get stack call.instance) [
-  | None ↦ nothing situation
-  | Some m ↦ called_with section call.overrides (meaning.does m dict section situation)
-]
+called meaning stack dict section call = called_of meaning dict section call.overrides (slice_get stack call.instance)
+
+-- What a kind of statement means.
+abbrev pub kind_done : {M : Type 0} → Meaning M → List M → Definitions → Section → StatementKind → Situation → Outcome
+kind_done meaning stack dict where_it_stands (kind.Call call) = called meaning stack dict where_it_stands call
+kind_done meaning stack dict where_it_stands (kind.Update edit) = updated where_it_stands edit
 
 -- What a statement means.
-unfoldable pub statement_done : {M : Type 0} → Meaning M → List M → Definitions → Section → Statement → Situation → Outcome
-statement_done meaning stack dict section statement situation = elim statement.kind [
-  | kind.Call call ↦ called meaning stack dict section call situation
-  | kind.Update edit ↦ updated section edit situation
-]
+abbrev pub statement_done : {M : Type 0} → Meaning M → List M → Definitions → Section → Statement → Situation → Outcome
+statement_done meaning stack dict section statement = kind_done meaning stack dict section statement.kind
 
 -- The group ends here: the signal leads elsewhere, or a child ends it.
 abbrev pub is_over : Outcome → Bool
 is_over outcome = if goes outcome.signal then list_any ends outcome.children else true
 
--- What is done behind a piece is done with its children in front.
+-- What is done behind a piece is done with its children in front; nothing is, where the group is over.
 abbrev pub behind : List Child → Outcome → Outcome
 behind children outcome = record outcome { children = children ++ outcome.children }
 
+abbrev pub and_then : Bool → Outcome → (Situation → Outcome) → Outcome
+and_then true first rest = first
+and_then false first rest = behind first.children (rest first.situation)
+
 -- A block of pieces: they are done in order, up to the first behind which the group ends.
-unfoldable pub block_of : List (Situation → Outcome) → Situation → Outcome
+abbrev pub block_of : List (Situation → Outcome) → Situation → Outcome
 block_of [] situation = nothing situation
-block_of (piece ∷ pieces) situation =
-    let first = piece situation in
-    if is_over first then first else behind first.children (block_of pieces first.situation)
+block_of (piece ∷ pieces) situation = and_then (is_over (piece situation)) (piece situation) (block_of pieces)
 
 -- What statements mean, one after the other.
 abbrev pub run_of : {M : Type 0} → Meaning M → List M → Definitions → Section → List Statement → Situation → Outcome
@@ -120,8 +130,9 @@ abbrev pub section_of : {M : Type 0} → Meaning M → List M → Definitions �
 section_of meaning stack dict servers id = section_done meaning stack dict id.section (unwrap_or (statements_of servers id) [])
 
 -- An update of the lists of a scope, and the child that it gives.
+abbrev pub IsUpdateTo : Section → Option PairLists → Scope → Scope → Child → Type 0
+IsUpdateTo where_it_stands None before now child = (now ≡ before) × (child ≡ child_of where_it_stands Plain [] code.Fail)
+IsUpdateTo where_it_stands (Some lists) before now child = (now ≡ with_lists lists before) × (child ≡ child_of where_it_stands Plain [] code.Noop)
+
 abbrev pub IsUpdate : Section → Edit → Scope → Scope → Child → Type 0
-IsUpdate section edit before now child = elim (tried before.lists edit) [
-  | None ↦ (now ≡ before) × (child ≡ child_of section Plain [] code.Fail)
-  | Some lists ↦ (now ≡ with_lists lists before) × (child ≡ child_of section Plain [] code.Noop)
-]
+IsUpdate section edit before now child = IsUpdateTo section (tried before.lists edit) before now child

@@ -15,17 +15,27 @@ use Rattle.unlang_code.specs.declared.section_id.SectionId.{SectionId}
 abbrev pub in_32_bits : ℕ → Option ℕ
 in_32_bits place = if nat_lt place 4294967296 then Some place else None
 
+-- A server has this name; a subsection has it, in any case of its ASCII letters; a section is of this kind.
+abbrev pub is_server_named : List ℕ → ServerTree → Bool
+is_server_named name server = bytes_eq server.name name
+
+abbrev pub is_named : List ℕ → Subsection → Bool
+is_named name subsection = str_eq_ignore_ascii_case subsection.name name
+
+abbrev pub is_of_kind : Section → SectionTree → Bool
+is_of_kind kind tree = place_of tree.section == place_of kind
+
 -- The number of the server of a name: its place.
 unfoldable pub server_of : List ServerTree → List ℕ → Option ℕ
-server_of servers name = option_and_then in_32_bits (position (λ (server : ServerTree). bytes_eq server.name name) servers)
+server_of servers name = option_and_then in_32_bits (position (is_server_named name) servers)
 
 -- The number of the subsection of a name: its place.
 unfoldable pub subsection_of : List Subsection → List ℕ → Option ℕ
-subsection_of subsections name = option_and_then in_32_bits (position (λ (subsection : Subsection). str_eq_ignore_ascii_case subsection.name name) subsections)
+subsection_of subsections name = option_and_then in_32_bits (position (is_named name) subsections)
 
 -- The section of a kind in a server: the first.
 unfoldable pub section_in : List ServerTree → ℕ → Section → Option SectionTree
-section_in servers server kind = option_and_then (λ (tree : ServerTree). find (λ (section : SectionTree). place_of section.section == place_of kind) tree.sections) (slice_get servers server)
+section_in servers server kind = option_and_then (λ (tree : ServerTree). find (is_of_kind kind) tree.sections) (slice_get servers server)
 
 -- The section of a kind in a server, or its subsection of a name, as it is called by.
 unfoldable pub found : List ServerTree → ℕ → Section → Option (List ℕ) → Option SectionId

@@ -6,9 +6,7 @@ use rad_outside::{NoMemory, Octets, Place};
 use rad_value::Edit;
 use sqlite_items::Items;
 use std::alloc::Global;
-use unlang_tree::{
-    Call, Override, SectionTree, ServerTree, Statement, StatementKind, Subsection,
-};
+use unlang_tree::{Call, Override, SectionTree, ServerTree, Statement, StatementKind, Subsection};
 
 /// What can be copied as far as memory reaches.
 pub(crate) trait TryCopy: Drop {

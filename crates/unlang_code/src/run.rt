@@ -55,6 +55,29 @@ fn update(section: Section, edit: &Edit, scope: &mut Scope) -> Result<Child, NoM
     Ok(child_of(section, GroupKind::Plain, &[], code))
 }
 
+/// Does a statement.
+fn do_statement<M: Module, W: World>(
+    alloc: Global,
+    stack: &Stack<M>,
+    section: Section,
+    statement: &Statement,
+    scope: &mut Scope,
+    world: &mut W,
+    dict: &Dict,
+) -> Result<Child, NoMemory>
+    requires served { IsKindServed M.meaning stack.now section statement.now.kind }
+    requires in_time { IsInTime scope.old.moment }
+    requires changes { section ≡ Accounting → (W.state world.old).takes_changes ≡ true }
+    ensures ok { IfOk result (λ child. Reaches scope.old (W.state world.old) (statement_done M.meaning stack.now dict.now section statement.now) scope.new (W.state world.new) (one_child child)) }
+    ensures in_time { OnOk result (IsInTime scope.new.moment) }
+    ensures memory { OnErr result (Stops scope.old (W.state world.old) (λ s. (statement_done M.meaning stack.now dict.now section statement.now s).situation.effects) (W.state world.new)) }
+{
+    match &statement.kind {
+        StatementKind::Call(called) => call(alloc, stack, section, called, scope, world, dict),
+        StatementKind::Update(edit) => update(section, edit, scope),
+    }
+}
+
 /// Does a statement, and tells the observer its code.
 fn run_statement<M: Module, W: World, O: Observer>(
     alloc: Global,
@@ -73,12 +96,11 @@ fn run_statement<M: Module, W: World, O: Observer>(
     ensures in_time { OnOk result (IsInTime scope.new.moment) }
     ensures memory { OnErr result (Stops scope.old (W.state world.old) (λ s. (statement_done M.meaning stack.now dict.now section statement.now s).situation.effects) (W.state world.new)) }
 {
-    let child = match &statement.kind {
-        StatementKind::Call(called) => call(alloc, stack, section, called, scope, world, dict)?,
-        StatementKind::Update(edit) => update(section, edit, scope)?,
-    };
-    observer.ran(&statement.place, child.code);
-    Ok(child)
+    let done = do_statement(alloc, stack, section, statement, scope, world, dict);
+    if let Ok(child) = done {
+        observer.ran(&statement.place, child.code);
+    }
+    done
 }
 
 /// Runs the statements of a section from its beginning, and answers its code.
@@ -102,7 +124,9 @@ pub(crate) fn run_section<M: Module, W: World, O: Observer>(
     scope.loops = [None, None, None, None, None, None, None, None];
     let mut leading = None;
     for statement in statements {
-        let child = run_statement(alloc, stack, section, statement, scope, world, dict, observer)?;
+        let child = run_statement(
+            alloc, stack, section, statement, scope, world, dict, observer,
+        )?;
         if let Some(code) = ended_by(child) {
             return Ok(code);
         }

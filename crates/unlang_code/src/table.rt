@@ -1,12 +1,12 @@
 //! Tables, and the names of their sections.
 
-ghost use Rattle.std.specs.Prelude.{◌≡◌, true, IsSome, IfOk, OnErr};
+ghost use Rattle.std.specs.Prelude.{◌≡◌, true, find, position, IsSome, IfOk, OnErr};
 ghost use Rattle.std.specs.Option.{option_copied, option_map};
 ghost use Rattle.rad_words.specs.declared.sections.Section.TheVariants.{Accounting};
 ghost use Rattle.rad_value.specs.Scope.{IsInTime};
 ghost use Rattle.mod_base.specs.Reaching.{Reaches, Stops};
 ghost use Rattle.unlang_code.specs.Run.{section_of};
-ghost use Rattle.unlang_code.specs.Sections.{in_32_bits, server_of, subsection_of, section_in, found, statements_of, statements_in};
+ghost use Rattle.unlang_code.specs.Sections.{in_32_bits, server_of, subsection_of, section_in, found, statements_of, statements_in, is_server_named, is_named, is_of_kind};
 ghost use Rattle.unlang_code.specs.Serving.{Serves};
 
 use crate::copy::copies_of;
@@ -58,15 +58,61 @@ fn in_32_bits(place: usize) -> Option<u32>
     }
 }
 
+/// Whether a server has this name.
+fn is_server_named(server: &ServerTree, name: &[u8]) -> bool
+    ensures { result ≡ is_server_named name.now server.now }
+{
+    server.name.as_slice() == name
+}
+
+/// Whether a subsection has this name, in any case of its ASCII letters.
+fn is_named(subsection: &Subsection, name: &[u8]) -> bool
+    ensures { result ≡ is_named name.now subsection.now }
+{
+    subsection.name.as_slice().eq_ignore_ascii_case(name)
+}
+
+/// Whether a section is of this kind.
+fn is_of_kind(tree: &SectionTree, section: Section) -> bool
+    ensures { result ≡ is_of_kind section tree.now }
+{
+    tree.section as u8 == section as u8
+}
+
+/// The place of the server of a name.
+fn place_of_server(servers: &[ServerTree], name: &[u8]) -> Option<usize>
+    ensures { result ≡ position (is_server_named name.now) servers.now }
+{
+    servers
+        .iter()
+        .position(|server| is_server_named(server, name))
+}
+
+/// The place of the subsection of a name.
+fn place_of_subsection(subsections: &[Subsection], name: &[u8]) -> Option<usize>
+    ensures { result ≡ position (is_named name.now) subsections.now }
+{
+    subsections
+        .iter()
+        .position(|subsection| is_named(subsection, name))
+}
+
+/// The section of a kind: the first.
+fn section_of_kind(sections: &[SectionTree], section: Section) -> Option<&SectionTree>
+    ensures { option_copied result ≡ find (is_of_kind section) sections.now }
+{
+    sections.iter().find(|tree| is_of_kind(tree, section))
+}
+
 /// The number of the subsection of a name.
 #[tactic(auto, unfolding(crate::specs::Sections::subsection_of))]
 fn subsection_of(subsections: &[Subsection], name: &[u8]) -> Option<u32>
     ensures { result ≡ subsection_of subsections.now name.now }
 {
-    let place = subsections
-        .iter()
-        .position(|subsection| subsection.name.as_slice().eq_ignore_ascii_case(name))?;
-    in_32_bits(place)
+    match place_of_subsection(subsections, name) {
+        Some(place) => in_32_bits(place),
+        None => None,
+    }
 }
 
 /// The statements of a section, or of its subsection of a number.
@@ -88,12 +134,10 @@ impl Table {
     pub fn server(&self, name: &[u8]) -> Option<u32>
         ensures { result ≡ server_of self.now name.now }
     {
-        let place = self
-            .servers
-            .as_slice()
-            .iter()
-            .position(|server| server.name.as_slice() == name)?;
-        in_32_bits(place)
+        match place_of_server(self.servers.as_slice(), name) {
+            Some(place) => in_32_bits(place),
+            None => None,
+        }
     }
 
     /// The section of a kind in a server.
@@ -102,11 +146,7 @@ impl Table {
         ensures { option_copied result ≡ section_in self.now server section }
     {
         match self.servers.get(server as usize) {
-            Some(tree) => tree
-                .sections
-                .as_slice()
-                .iter()
-                .find(|tree| tree.section as u8 == section as u8),
+            Some(tree) => section_of_kind(tree.sections.as_slice(), section),
             None => None,
         }
     }
@@ -185,6 +225,15 @@ impl Table {
         let Some(statements) = self.statements(section) else {
             unreachable!()
         };
-        run_section(alloc, stack, section.section, statements, scope, world, dict, observer)
+        run_section(
+            alloc,
+            stack,
+            section.section,
+            statements,
+            scope,
+            world,
+            dict,
+            observer,
+        )
     }
 }
