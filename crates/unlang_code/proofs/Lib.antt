@@ -2,3 +2,4 @@ pub mod Judging
 pub mod Judged
 pub mod Running
 pub mod Looping
+pub mod Finding
