@@ -69,6 +69,7 @@ gains_nothing world = record {
   takes_changes = refl;
   write_faults = counts_nothing world.write_faults;
   line_faults = counts_nothing world.line_faults;
+  lent = refl;
 }
 
 -- what a world makes in one stretch and in the next, it makes in order
@@ -80,6 +81,7 @@ gains_joined first second third made more a b = record {
   takes_changes = b.takes_changes ∙ a.takes_changes;
   write_faults = rw (writes_of-append made more) (counts_joined first.write_faults second.write_faults third.write_faults (writes_of made) (writes_of more) a.write_faults b.write_faults);
   line_faults = rw (lines_of-append made more) (counts_joined first.line_faults second.line_faults third.line_faults (lines_of made) (lines_of more) a.line_faults b.line_faults);
+  lent = b.lent ∙ a.lent;
 }
 
 some_failed : (answers : List Bool) → list_any not answers ≡ true → 1 ≤ failures_in answers

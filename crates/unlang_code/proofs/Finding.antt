@@ -1,7 +1,7 @@
 -- What is found stands in the table.
 use Rattle.std.specs.Prelude.{position, slice_get, nat_lt, IsSome}
 use Rattle.std.specs.Option.{option_map, option_and_then}
-use Rattle.std.proofs.Common.{◌≡◌, ℕ, ◌<◌, Bool, true, false, cond, List, [], ◌∷◌, length, get_or, Option, Some, None, refl, sym, ap, subst, ◌∙◌}
+use Rattle.std.proofs.Common.{◌≡◌, ℕ, ◌<◌, Bool, true, false, cond, List, [], ◌∷◌, length, Option, Some, None, refl, sym, subst}
 use Rattle.std.proofs.lemmas.List.Quantifiers.{position-Some}
 use Rattle.std.proofs.lemmas.Option.{slice_get-get_or}
 use Rattle.rad_words.specs.declared.sections.Section.{Section}

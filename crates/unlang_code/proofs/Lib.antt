@@ -3,3 +3,4 @@ pub mod Judged
 pub mod Running
 pub mod Looping
 pub mod Finding
+pub mod FrameLaws

@@ -1,14 +1,12 @@
 -- A section is run statement by statement, with the heaviest child so far.
 use Rattle.std.specs.Prelude.{unwrap_or}
-use Rattle.std.specs.List.{list_any}
 use Rattle.std.proofs.lemmas.List.{drop_more}
-use Rattle.std.proofs.Common.{◌≡◌, ℕ, ◌+◌, ◌<◌, ◌≤◌, Bool, true, false, ◌||◌, cond, List, [], ◌∷◌, ◌++◌, length, drop, get_or, Option, Some, None, refl, sym, ap, subst, ◌∙◌}
+use Rattle.std.proofs.Common.{◌≡◌, ℕ, ◌+◌, ◌<◌, Bool, true, false, ◌||◌, cond, List, [], ◌∷◌, length, drop, get_or, Option, Some, None, refl, sym, ap, ◌∙◌}
 use Rattle.rad_words.specs.declared.codes.Code.{Code}
 use Rattle.rad_words.specs.declared.sections.Section.{Section}
 use Rattle.rad_value.specs.declared.scope.Scope.{Scope}
 use Rattle.rad_value.specs.Scope.{IsInTime}
 use Rattle.rad_dict.specs.Definitions.{Definitions}
-use Rattle.rad_world.specs.Effects.{Effect}
 use Rattle.rad_world.specs.World.{WorldState}
 use Rattle.mod_base.specs.Situation.{Situation, situation_in}
 use Rattle.mod_base.specs.Meaning.{Meaning, IsLawful}
@@ -17,7 +15,7 @@ use Rattle.mod_base.proofs.Reached.{reaches_joined, reaches_then, reaches_as, st
 use Rattle.unlang_tree.specs.declared.statement.Statement.{Statement}
 use Rattle.unlang_code.specs.declared.judgement.Child.{Child}
 use Rattle.unlang_code.specs.Judgement.{ends, ending_code, ended_by, heavier_of, default_code}
-use Rattle.unlang_code.specs.Run.{Outcome, begun, in_scope, one_child, statement_done, is_over, and_then, run_of, section_done}
+use Rattle.unlang_code.specs.Run.{Outcome, begun, one_child, statement_done, is_over, and_then, run_of, section_done}
 use Rattle.unlang_code.proofs.Judging.{judged_behind, judged_is}
 use Rattle.unlang_code.proofs.Running.{reaches_moved, run_stops}
 

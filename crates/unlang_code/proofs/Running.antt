@@ -1,6 +1,6 @@
 -- Statements are run one by one.
-use Rattle.std.specs.Prelude.{slice_get, unwrap_or, OnErr, IfOk, Result, Ok, Err}
-use Rattle.std.proofs.Common.{◌≡◌, ℕ, ◌<◌, ◌≤◌, Bool, true, false, cond, List, [], ◌∷◌, ◌++◌, length, drop, get_or, Option, Some, None, refl, sym, ap, subst, ◌∙◌, arith, append_assoc}
+use Rattle.std.specs.Prelude.{slice_get, OnErr, IfOk, Result, Ok, Err}
+use Rattle.std.proofs.Common.{◌≡◌, Bool, true, false, List, [], ◌∷◌, ◌++◌, Option, Some, None, sym, ap, subst, ◌∙◌, append_assoc}
 use Rattle.std.proofs.lemmas.List.{append-nil}
 use Rattle.rad_words.specs.declared.codes.Code.{Code}
 use Rattle.rad_words.specs.declared.codes.Code.TheVariants as code
@@ -17,16 +17,15 @@ use Rattle.rad_world.proofs.Joining.{gains_nothing}
 use Rattle.mod_base.specs.Situation.{Situation, situation_in}
 use Rattle.mod_base.specs.Meaning.{Meaning, IsLawful}
 use Rattle.mod_base.specs.Reaching.{Reaches, Stops}
-use Rattle.mod_base.proofs.Reached.{reaches_start, reaches_joined, reaches_then, stops_joined, stops_then, stops_start}
+use Rattle.mod_base.proofs.Reached.{stops_then, stops_start}
 use Rattle.unlang_tree.specs.declared.statement.Call.{Call}
 use Rattle.unlang_tree.specs.declared.statement.Override.{Override}
 use Rattle.unlang_tree.specs.declared.statement.Statement.{Statement}
 use Rattle.unlang_tree.specs.declared.statement.StatementKind.{StatementKind}
 use Rattle.unlang_tree.specs.declared.statement.StatementKind.TheVariants as kinds
 use Rattle.unlang_code.specs.declared.judgement.Child.{Child}
-use Rattle.unlang_code.specs.Judgement.{child_of, ends, ending_code, heavier_of, judged, default_code}
-use Rattle.unlang_code.specs.Run.{Outcome, in_scope, with_lists, begun, one_child, updated_to, updated, IsUpdateTo, IsUpdate, called_of, called, kind_done, statement_done, is_over, and_then, run_of, judged_in, section_done}
-use Rattle.unlang_code.proofs.Judging.{judged_behind, judged_is}
+use Rattle.unlang_code.specs.Judgement.{child_of}
+use Rattle.unlang_code.specs.Run.{Outcome, with_lists, one_child, updated_to, updated, IsUpdateTo, IsUpdate, called_of, called, kind_done, statement_done, is_over, and_then, run_of}
 
 -- what holds beside an error
 pub on_err : {T E P : Type 0} (result : Result T E) → P → OnErr result P

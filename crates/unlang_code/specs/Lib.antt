@@ -2,3 +2,4 @@ pub mod Judgement
 pub mod Sections
 pub mod Run
 pub mod Serving
+pub mod Frames

@@ -1,5 +1,5 @@
 -- What a section's statements mean: from a situation to a situation and a code, after unlang(5).
-use Rattle.std.specs.Prelude.{◌≡◌, Bool, true, false, ◌||◌, List, [], ◌∷◌, ◌++◌, map, slice_get, Option, Some, None, unwrap_or, replicate, if◌then◌else◌}
+use Rattle.std.specs.Prelude.{◌≡◌, Bool, true, false, List, [], ◌∷◌, ◌++◌, map, slice_get, Option, Some, None, unwrap_or, replicate, if◌then◌else◌}
 use Rattle.std.specs.List.{list_any}
 use Rattle.rad_words.specs.declared.codes.Code.{Code}
 use Rattle.rad_words.specs.declared.codes.Code.TheVariants as code

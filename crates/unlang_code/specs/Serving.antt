@@ -1,5 +1,5 @@
 -- When a stack of modules serves the sections of policies. This project's own.
-use Rattle.std.specs.Prelude.{◌≡◌, Bool, true, List, slice_get, Some, IfSome, IsSome}
+use Rattle.std.specs.Prelude.{◌≡◌, true, List, slice_get, Some}
 use Rattle.std.specs.List.{AllByRecursion}
 use Rattle.rad_words.specs.declared.sections.Section.{Section}
 use Rattle.mod_base.specs.Methods.{has_method}

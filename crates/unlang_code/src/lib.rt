@@ -13,7 +13,7 @@ mod run;
 mod section_id;
 mod table;
 
-pub use laws::{found_sections_stand, groups_answer_as_their_children};
+pub use laws::{found_sections_stand, groups_answer_as_their_children, sections_keep_their_frames};
 pub use observer::{Observer, Silent};
 pub use section_id::SectionId;
 pub use table::{Table, compile};

@@ -1,11 +1,9 @@
-use Rattle.std.proofs.Common.{List, ◌∷◌, drop, ◌+◌, sym, ap, subst, ◌∙◌}
-use Rattle.rad_value.specs.Scope.{IsInTime}
+use Rattle.std.proofs.Common.{List, drop, ◌+◌, sym, subst, ◌∙◌}
 use Rattle.mod_base.specs.Reaching.{Reaches}
 use Rattle.unlang_tree.specs.declared.statement.Statement.{Statement}
-use Rattle.unlang_code.specs.Judgement.{ended_by}
 use Rattle.unlang_code.specs.Run.{section_done}
 use Rattle.unlang_code.proofs.Running.{on_err}
-use Rattle.unlang_code.proofs.Looping.{Stands, left, from_here, all_is_left, ends_here, goes_on_here, stops_here}
+use Rattle.unlang_code.proofs.Looping.{left, from_here, all_is_left, ends_here, goes_on_here, stops_here}
 use Rattle.unlang_code.proofs.run.run_section.Goals as goal
 
 pub loop-statement-init : goal.loop-statement-init
