@@ -1,0 +1,13 @@
+use Rattle.unlang_code.proofs.Running.{on_err, if_ok, update_reaches, update_stops}
+use Rattle.unlang_code.proofs.run.do_statement.Goals as goal
+
+pub returns-in-Call-clause-memory : goal.returns-in-Call-clause-memory
+returns-in-Call-clause-memory g c = rw c.in-Call.is c.call.ensures.memory
+
+pub returns-in-Update-clause-ok : goal.returns-in-Update-clause-ok
+returns-in-Update-clause-ok g c =
+    rw c.in-Update.is (if_ok c.update.result (update_reaches c.args.section c.in-Update.edit c.args.scope.now c.update.new.scope (g.W.World.state c.args.world.now)) c.update.ensures)
+
+pub returns-in-Update-clause-memory : goal.returns-in-Update-clause-memory
+returns-in-Update-clause-memory g c =
+    rw c.in-Update.is (on_err c.update.result (update_stops c.args.section c.in-Update.edit c.args.scope.now (g.W.World.state c.args.world.now)))

@@ -1,0 +1,37 @@
+-- Which attributes of which lists the statements of a section may edit, whatever the situation. After unlang(5), where an
+-- update names its list and attribute; the frames of modules are this project's own.
+use Rattle.std.specs.Prelude.{Bool, true, false, ◌&&◌, List, slice_get, Option, Some, None}
+use Rattle.std.specs.List.{list_any}
+use Rattle.rad_words.specs.declared.attributes.AttrId.{AttrId}
+use Rattle.rad_words.specs.Attribute.{same_attr}
+use Rattle.rad_value.specs.declared.edits.ListName.{ListName}
+use Rattle.rad_value.specs.declared.edits.ListName.TheVariants.{Request, Reply, Control}
+use Rattle.mod_base.specs.Meaning.{Meaning}
+use Rattle.unlang_tree.specs.declared.statement.Statement.{Statement}
+use Rattle.unlang_tree.specs.declared.statement.StatementKind.{StatementKind}
+use Rattle.unlang_tree.specs.declared.statement.StatementKind.TheVariants as kind
+
+abbrev pub same_list : ListName → ListName → Bool
+same_list Request Request = true
+same_list Request Reply = false
+same_list Request Control = false
+same_list Reply Request = false
+same_list Reply Reply = true
+same_list Reply Control = false
+same_list Control Request = false
+same_list Control Reply = false
+same_list Control Control = true
+
+-- A module, where there is one, may edit what is in its frame.
+abbrev pub module_edits : {M : Type 0} → Meaning M → Option M → ListName → AttrId → Bool
+module_edits meaning None list attr = false
+module_edits meaning (Some m) list attr = meaning.edits m list attr
+
+-- A call may edit what its module may, and an update its own attribute in its own list.
+abbrev pub kind_edits : {M : Type 0} → Meaning M → List M → ListName → AttrId → StatementKind → Bool
+kind_edits meaning stack list attr (kind.Call call) = module_edits meaning (slice_get stack call.instance) list attr
+kind_edits meaning stack list attr (kind.Update edit) = same_list edit.list list && same_attr attr edit.attr
+
+-- Statements may edit what one of them may.
+abbrev pub edits_of : {M : Type 0} → Meaning M → List M → List Statement → ListName → AttrId → Bool
+edits_of meaning stack statements list attr = list_any (λ (statement : Statement). kind_edits meaning stack list attr statement.kind) statements

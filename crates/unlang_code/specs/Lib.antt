@@ -1,0 +1,5 @@
+pub mod Judgement
+pub mod Sections
+pub mod Run
+pub mod Serving
+pub mod Frames

@@ -1,0 +1,47 @@
+//! The laws of policies, in the words of whoever writes them. They are facts about the definitions, and the functions do
+//! nothing.
+
+ghost use Rattle.std.specs.Prelude.{◌≡◌, ◌<◌, ◌≤◌, [], ◌∷◌, ◌++◌, ℕ, List, Option, Some, None, true, false, IsSome};
+ghost use Rattle.std.specs.List.{list_any, AllByRecursion};
+ghost use Rattle.rad_words.specs.declared.codes.Code.TheVariants as code;
+ghost use Rattle.rad_words.specs.declared.sections.Section.{Section};
+ghost use Rattle.rad_words.specs.declared.attributes.AttrId.{AttrId};
+ghost use Rattle.rad_value.specs.declared.edits.ListName.{ListName};
+ghost use Rattle.rad_value.specs.PairLists.{list_of};
+ghost use Rattle.rad_value.specs.Pairs.{values_of};
+ghost use Rattle.rad_dict.specs.Definitions.{Definitions};
+ghost use Rattle.mod_base.specs.Situation.{Situation};
+ghost use Rattle.unlang_tree.specs.declared.statement.Statement.{Statement};
+ghost use Rattle.unlang_code.specs.Frames.{edits_of};
+ghost use Rattle.unlang_code.specs.Run.{section_done};
+ghost use Rattle.rad_tables.specs.declared.action_table.Action.TheVariants as action;
+ghost use Rattle.unlang_tree.specs.declared.policies.ServerTree.{ServerTree};
+ghost use Rattle.unlang_code.specs.declared.section_id.SectionId.{SectionId};
+ghost use Rattle.unlang_code.specs.Sections.{found, statements_of};
+ghost use Rattle.unlang_code.specs.declared.judgement.Child.{Child};
+ghost use Rattle.unlang_code.specs.Judgement.{ends, judged, priority_of};
+
+use mod_base::Module;
+
+/// What a group answers. Behind children that don't end it, a child whose action is `return` ends it with its own code, and
+/// one whose action is `reject` with reject, whatever stands behind. Where no child ends it, it has the code of the child
+/// that weighs more than all before it and no less than all behind it. Without children it gives no code.
+pub fn groups_answer_as_their_children()
+    ensures returned { (before : List Child) (child : Child) (later : List Child) → list_any ends before ≡ false → child.action ≡ action.Return → judged (before ++ child ∷ later) ≡ Some child.code }
+    ensures rejected { (before : List Child) (child : Child) (later : List Child) → list_any ends before ≡ false → child.action ≡ action.Reject → judged (before ++ child ∷ later) ≡ Some code.Reject }
+    ensures greatest { (before : List Child) (child : Child) (later : List Child) → list_any ends (before ++ child ∷ later) ≡ false
+        → AllByRecursion (λ c. priority_of c < priority_of child) before → AllByRecursion (λ c. priority_of c ≤ priority_of child) later → judged (before ++ child ∷ later) ≡ Some child.code }
+    ensures without { judged [] ≡ None }
+{}
+
+/// Whatever section is found in policies has statements, so that it can be run.
+pub fn found_sections_stand()
+    ensures { (servers : List ServerTree) (server : ℕ) (kind : Section) (sub : Option (List ℕ)) (id : SectionId) → found servers server kind sub ≡ Some id → IsSome (statements_of servers id) }
+{}
+
+/// What a section leaves alone, whatever the request and the devices: the values of an attribute that none of its modules'
+/// frames has and none of its updates names stay, in order.
+pub fn sections_keep_their_frames<M: Module>()
+    ensures { (stack : List M) (dict : Definitions) (kind : Section) (statements : List Statement) (situation : Situation) (list : ListName) (attr : AttrId) → edits_of M.meaning stack statements list attr ≡ false
+        → values_of attr (list_of (section_done M.meaning stack dict kind statements situation).0.scope.lists list) ≡ values_of attr (list_of situation.scope.lists list) }
+{}

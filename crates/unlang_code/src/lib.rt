@@ -1,0 +1,19 @@
+//! The section tables of a site: what the source trees of its policies mean when they run over a request.
+//! The one model is the list of servers that a table was made from; a section means a function from a situation to a
+//! situation and a code, piece by piece, and `Table::run` gives what it means for every kind of modules, every world and
+//! every observer.
+//! Above it stand the programs that serve requests.
+#![tactic(auto)]
+
+mod copy;
+mod judgement;
+mod laws;
+mod observer;
+mod run;
+mod section_id;
+mod table;
+
+pub use laws::{found_sections_stand, groups_answer_as_their_children, sections_keep_their_frames};
+pub use observer::{Observer, Silent};
+pub use section_id::SectionId;
+pub use table::{Table, compile};
