@@ -1,0 +1,11 @@
+//! The client: it reads groups of pairs, sends a request for each, and prints the replies.
+//! The one model is `client_run`, a function of what was asked, the groups and what the wire and the luck still have to
+//! answer, which gives the sends, the lines and how the run ends; the top call does that run.
+//! Only the thin program stands above it, which makes the real devices and hands them in.
+#![tactic(auto)]
+
+mod asked;
+mod asking;
+mod stop;
+
+pub use asked::{Asked, Kind};
