@@ -1,3 +1,5 @@
 pub mod Accepting
 pub mod Reaching
 pub mod Awaiting
+pub mod Printed
+pub mod Tries

@@ -1,5 +1,5 @@
 -- What the client does: radclient(1) of FreeRADIUS, in this project's profile.
-use Rattle.std.specs.Prelude.{ℕ, zero, suc, ◌+◌, ◌%◌, ◌==◌, ◌||◌, Bool, true, false, List, [], ◌∷◌, ◌++◌, Option, Some, None, Result, Ok, Err, replicate, if◌then◌else◌}
+use Rattle.std.specs.Prelude.{ℕ, zero, suc, ◌+◌, ◌-◌, ◌^◌, ◌%◌, min, ◌==◌, ◌||◌, Bool, true, false, List, [], ◌∷◌, ◌++◌, Option, Some, None, Result, Ok, Err, replicate, if◌then◌else◌}
 use Rattle.std.specs.List.{flat_map}
 use Rattle.rad_value.specs.declared.values.Pair.{Pair}
 use Rattle.rad_packet.specs.Packet.{code_of}
@@ -20,15 +20,19 @@ awaited asked request (suc waits) next = asking (λ answer. elim (judged asked r
   | Broken ↦ ended SocketFault
 ])
 
+-- The lines of a request that is still to be sent so often: they are printed at its first send alone.
+abbrev pub lines_at : Asked → ℕ → List ℕ → List ℕ
+lines_at asked left lines = if left == asked.tries then lines else []
+
 -- Sends a request and asks for its reply, and sends the same octets again where it doesn't come, until it was sent so many
 -- times in all. These lines are printed once the first send was taken.
 unfoldable pub tried : Asked → List ℕ → List ℕ → ℕ → (Option (List ℕ) → Act) → Act
 tried asked request lines zero next = next None
-tried asked request lines (suc tries) next =
-    sending (record { to = asked.server; octets = request }) (saying (unless_quiet asked lines)
+tried asked request lines (suc left) next =
+    sending (record { to = asked.server; octets = request }) (saying (unless_quiet asked (lines_at asked (suc left) lines))
     (awaited asked request asked.waits (λ found. elim found [
       | Some reply ↦ next (Some reply)
-      | None ↦ tried asked request [] tries next
+      | None ↦ tried asked request lines left next
     ])))
 
 -- A good reply is an Access-Accept, an Accounting-Response or an Access-Challenge.
@@ -52,10 +56,10 @@ packet asked id pairs next =
       | Err wrong ↦ ended (NotMade wrong)
     ]))
 
--- One more packet that got no good reply, where it got none.
+-- One more packet that got no good reply, where it got none. The count stands still at the end of its 64 bits.
 abbrev pub counted : Bool → ℕ → ℕ
 counted true bad = bad
-counted false bad = bad + 1
+counted false bad = min (bad + 1) (2 ^ 64 - 1)
 
 -- The packets of these groups, one after another, from this Identifier on, which counts modulo 256. So many got no good
 -- reply before.

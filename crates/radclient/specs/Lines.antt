@@ -22,15 +22,23 @@ code_name code =
     else (if code == 11 then codes "Access-Challenge"
     else [])))))
 
+-- `ADDRESS:PORT length N` and the line's end.
+abbrev pub line_end : List ℕ → Peer → List ℕ
+line_end packet peer =
+    dotted peer.addr ++ codes ":" ++ decimal peer.port ++ codes " length " ++ decimal (length packet) ++ 10 ∷ []
+
 -- `VERB NAME Id N WAY ADDRESS:PORT length N`: a packet that went to a peer or came from one.
 unfoldable pub packet_line : List ℕ → List ℕ → List ℕ → Peer → List ℕ
 packet_line verb packet way peer =
-    verb ++ codes " " ++ code_name (code_of packet) ++ codes " Id " ++ decimal (id_of packet) ++ codes " " ++ way ++ codes " "
-    ++ dotted peer.addr ++ codes ":" ++ decimal peer.port ++ codes " length " ++ decimal (length packet) ++ 10 ∷ []
+    verb ++ code_name (code_of packet) ++ codes " Id " ++ decimal (id_of packet) ++ way ++ line_end packet peer
 
--- A line for each pair, behind a tab.
+-- The line of a pair, behind a tab.
+abbrev pub pair_line : Pair → List ℕ
+pair_line pair = 9 ∷ pair_text pair base_definitions ++ 10 ∷ []
+
+-- A line for each pair.
 abbrev pub pair_lines : List Pair → List ℕ
-pair_lines pairs = flat_map (λ (pair : Pair). 9 ∷ pair_text pair base_definitions ++ 10 ∷ []) pairs
+pair_lines pairs = flat_map pair_line pairs
 
 -- Lines that are printed, unless the client is quiet.
 abbrev pub unless_quiet : Asked → List ℕ → List ℕ
@@ -39,12 +47,12 @@ unless_quiet asked lines = if asked.quiet then [] else lines
 -- What is printed of a request that was sent: `Sent ..`, and where pairs are shown those of its group.
 abbrev pub sent_lines : Asked → List ℕ → List Pair → List ℕ
 sent_lines asked request pairs =
-    packet_line (codes "Sent") request (codes "to") asked.server ++ (if asked.shown then pair_lines pairs else [])
+    packet_line (codes "Sent ") request (codes " to ") asked.server ++ (if asked.shown then pair_lines pairs else [])
 
 -- What is printed of a reply: `Received ..` and its pairs. A datagram's octets behind its packet are ignored.
 abbrev pub reply_lines : Asked → List ℕ → List ℕ
 reply_lines asked reply =
-    packet_line (codes "Received") (packet_of reply) (codes "from") asked.server
+    packet_line (codes "Received ") (packet_of reply) (codes " from ") asked.server
     ++ pair_lines (pairs_of (packet_of reply) asked.secret base_definitions)
 
 -- `No reply for Id N`

@@ -1,11 +1,15 @@
 -- The packet that is made of a group's pairs: RFC 2865 section 3, RFC 2866 section 3, radclient(1).
-use Rattle.std.specs.Prelude.{ℕ, Bool, List, [], ◌∷◌, ◌++◌, length, nat_lt, nat_le, Result, Ok, Err, if◌then◌else◌}
+use Rattle.std.specs.Prelude.{ℕ, ◌≡◌, Bool, List, [], ◌∷◌, ◌++◌, length, nat_lt, nat_le, Result, Ok, Err, if◌then◌else◌}
 use Rattle.std.specs.Int.{w64, to_be_bytes}
 use Rattle.rad_value.specs.declared.values.Pair.{Pair}
 use Rattle.rad_wire.specs.Request.{long_passwords, request_octets}
 use Rattle.radclient.specs.declared.asked.Asked.{Asked}
 use Rattle.radclient.specs.declared.asked.Kind.{Kind}
 use Rattle.radclient.specs.declared.asked.Kind.TheVariants.{Auth, Acct}
+use Rattle.rad_wire.specs.declared.request_fault.RequestFault.{RequestFault}
+use Rattle.rad_wire.specs.declared.request_fault.RequestFault.TheVariants as fault
+use Rattle.radclient.specs.declared.stop.Stop.{Stop}
+use Rattle.radclient.specs.declared.stop.Stop.TheVariants as stop
 use Rattle.radclient.specs.declared.stop.Unmade.{Unmade}
 use Rattle.radclient.specs.declared.stop.Unmade.TheVariants.{PasswordTooLong, TooLong}
 
@@ -36,3 +40,16 @@ made asked id high low pairs =
 -- A group of 2^31 pairs or more is too long, whatever they are.
 abbrev pub is_too_long : List Pair → Bool
 is_too_long pairs = nat_le 2147483648 (length pairs)
+
+-- Why a request isn't made, as a run's stop.
+abbrev pub stop_of : RequestFault → Stop
+stop_of (fault.PasswordTooLong count) = stop.Unmade PasswordTooLong
+stop_of (fault.TooLong count) = stop.Unmade TooLong
+stop_of fault.NoMemory = stop.NoMemory
+
+-- A run that stops here stops since the request isn't made, for this reason, or for want of memory.
+abbrev pub IsUnmade : Result (List ℕ) Unmade → Stop → Type 0
+IsUnmade made (stop.Unmade reason) = made ≡ Err reason
+IsUnmade made stop.SocketFault = ⊥
+IsUnmade made stop.WriteFault = ⊥
+IsUnmade made stop.NoMemory = Unit {0}

@@ -6,6 +6,12 @@
 
 mod asked;
 mod asking;
+mod lines;
+mod making;
+mod printing;
+mod running;
+mod sending;
+mod serving;
 mod stop;
 
 pub use asked::{Asked, Kind};
