@@ -3,3 +3,5 @@ pub mod Reaching
 pub mod Awaiting
 pub mod Printed
 pub mod Tries
+pub mod Makings
+pub mod Packets
