@@ -1,5 +1,5 @@
 -- How far a run came, one step after another.
-use Rattle.std.proofs.Common.{◌≡◌, ℕ, ◌≤◌, Bool, true, false, List, [], ◌∷◌, ◌++◌, map, Option, Some, None, refl, sym, ap, ◌∙◌, append_assoc, append-nil, arith}
+use Rattle.std.proofs.Common.{◌≡◌, ℕ, ◌≤◌, Bool, true, false, List, [], ◌∷◌, ◌++◌, map, Option, Some, None, Result, Ok, Err, MatchResult, refl, sym, ap, ◌∙◌, append_assoc, append-nil, arith}
 use Rattle.std.proofs.lemmas.List.{map-append}
 use Rattle.rad_outside.specs.declared.wire.Heard.{Heard}
 use Rattle.rad_outside.specs.declared.wire.Sent.{Sent}
@@ -119,3 +119,10 @@ Goes-same x y a same = record { gained = nothing; gains = Gains-nothing a; runs 
 
 pub CutOff-here : (x : Act) (a : Seen) → IsCutOff x a a
 CutOff-here x a = record { rest = x; unwritten = []; reaches = Goes-same x x a (λ later. refl) }
+
+-- one way, and then a call's
+pub chained : {A : Type 0} (x y : Act) (to : A → Act) (a b c : Seen) (result : Result A Stop) → Goes x y a b
+    → MatchResult result (λ v. Goes y (to v) b c) (λ stop. Stops y stop b c)
+    → MatchResult result (λ v. Goes x (to v) a c) (λ stop. Stops x stop a c)
+chained x y to a b c (Ok v) first second = Goes-trans x y (to v) a b c first second
+chained x y to a b c (Err why) first second = Stops-trans x y why a b c first second

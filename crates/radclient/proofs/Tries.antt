@@ -4,9 +4,8 @@ use Rattle.rad_outside.specs.declared.listen.Peer.{Peer}
 use Rattle.rad_outside.specs.Telling.{Tells}
 use Rattle.rad_outside.specs.Wire.{WireTold}
 use Rattle.radclient.specs.declared.asked.Asked.{Asked}
-use Rattle.radclient.specs.Answers.{Act, ToCome, SocketFault, ended, saying, sending}
-use Rattle.radclient.specs.Client.{awaited, lines_at, tried}
-use Rattle.radclient.specs.Lines.{unless_quiet}
+use Rattle.radclient.specs.Answers.{Act, ToCome, SocketFault, ended, sending}
+use Rattle.radclient.specs.Client.{awaited, sent_once, tried}
 use Rattle.radclient.specs.Seen.{Seen, Gained, Gains, Goes}
 use Rattle.radclient.proofs.Awaiting.{after_ask}
 use Rattle.radclient.proofs.Reaching.{Tells-weaker, Gains-nothing, Goes-same}
@@ -47,17 +46,16 @@ again asked request lines left next found = elim found [
 
 abbrev pub one_try : Asked → List ℕ → List ℕ → ℕ → (Option (List ℕ) → Act) → Act
 one_try asked request lines left next =
-    saying (unless_quiet asked (lines_at asked left lines)) (awaited asked request asked.waits (again asked request lines (left - 1) next))
+    sent_once asked request lines left (awaited asked request asked.waits (again asked request lines (left - 1) next))
 
 module _ (asked : Asked) (request lines : List ℕ) (next : Option (List ℕ) → Act) where
-  pub tries_once : (left : ℕ) → 0 < left → (a : Seen)
-      → Goes (tried asked request lines left next) (sending (record { to = asked.server; octets = request }) (one_try asked request lines left next)) a a
+  pub tries_once : (left : ℕ) → 0 < left → (a : Seen) → Goes (tried asked request lines left next) (one_try asked request lines left next) a a
   unfolding tried
   tries_once zero some a = absurd (omega arith)
   tries_once (suc left) some a =
       let e : left ≡ suc left - 1 = omega arith in
-      Goes-same (tried asked request lines (suc left) next) (sending (record { to = asked.server; octets = request }) (one_try asked request lines (suc left) next)) a
-      (λ come. ap (λ (n : ℕ). sending (record { to = asked.server; octets = request }) (saying (unless_quiet asked (lines_at asked (suc left) lines)) (awaited asked request asked.waits (again asked request lines n next))) come) e)
+      Goes-same (tried asked request lines (suc left) next) (one_try asked request lines (suc left) next) a
+      (λ come. ap (λ (n : ℕ). sent_once asked request lines (suc left) (awaited asked request asked.waits (again asked request lines n next)) come) e)
 
   pub tries_none : (left : ℕ) → left ≤ 0 → (a : Seen) → Goes (tried asked request lines left next) (next None) a a
   unfolding tried

@@ -24,27 +24,33 @@ awaited asked request (suc waits) next = asking (λ answer. elim (judged asked r
 abbrev pub lines_at : Asked → ℕ → List ℕ → List ℕ
 lines_at asked left lines = if left == asked.tries then lines else []
 
+-- Sends a request that is still to be sent so often, and prints its lines where that was taken.
+abbrev pub sent_once : Asked → List ℕ → List ℕ → ℕ → Act → Act
+sent_once asked request lines left next =
+    sending (record { to = asked.server; octets = request }) (saying (unless_quiet asked (lines_at asked left lines)) next)
+
 -- Sends a request and asks for its reply, and sends the same octets again where it doesn't come, until it was sent so many
 -- times in all. These lines are printed once the first send was taken.
 unfoldable pub tried : Asked → List ℕ → List ℕ → ℕ → (Option (List ℕ) → Act) → Act
 tried asked request lines zero next = next None
 tried asked request lines (suc left) next =
-    sending (record { to = asked.server; octets = request }) (saying (unless_quiet asked (lines_at asked (suc left) lines))
-    (awaited asked request asked.waits (λ found. elim found [
+    sent_once asked request lines (suc left) (awaited asked request asked.waits (λ found. elim found [
       | Some reply ↦ next (Some reply)
       | None ↦ tried asked request lines left next
-    ])))
+    ]))
 
 -- A good reply is an Access-Accept, an Accounting-Response or an Access-Challenge.
 abbrev pub is_good : Option (List ℕ) → Bool
 is_good (Some reply) = code_of reply == 2 || (code_of reply == 5 || code_of reply == 11)
 is_good None = false
 
+-- Prints what came of a request, and goes on by whether it got a good reply.
+abbrev pub closed : Asked → ℕ → (Bool → Act) → Option (List ℕ) → Act
+closed asked id next found = saying (unless_quiet asked (closing_lines asked id found)) (next (is_good found))
+
 -- A request's way, once it is made: it is tried, and its end is printed.
 abbrev pub served : Asked → ℕ → List Pair → List ℕ → (Bool → Act) → Act
-served asked id pairs request next =
-    tried asked request (sent_lines asked request pairs) asked.tries (λ found.
-    saying (unless_quiet asked (closing_lines asked id found)) (next (is_good found)))
+served asked id pairs request next = tried asked request (sent_lines asked request pairs) asked.tries (closed asked id next)
 
 -- A packet's way: it is made of two random words and the pairs of its group, and is served. Where it can't be made the run
 -- ends.

@@ -1,4 +1,5 @@
-use Rattle.std.proofs.Common.{◌++◌, ◌+◌, List, ℕ, drop, replicate, refl, subst, sym}
+use Rattle.std.proofs.Common.{◌++◌, ◌+◌, List, ℕ, drop, replicate, refl, subst, sym, arith}
+use Rattle.std.proofs.lemmas.List.{drop_all}
 use Rattle.rad_value.specs.declared.values.Pair.{Pair}
 use Rattle.radclient.specs.Answers.{Finished, ended}
 use Rattle.radclient.specs.Client.{client_run, packets, repeated}
@@ -42,3 +43,14 @@ returns-in-Err g c =
     c.loop-pairs.invariant
     (subst (λ (all : List (List Pair)). Stops (packets asked at.id at.bad all) c.in-Err.stop before now)
     (sym (groups_next asked.count groups i c.pairs-item.result c.loop-pairs-test.true c.pairs-item.is)) (c.in-Err.ensures rest))
+
+pub returns : goal.returns
+returns g c = let a = c.loop-pairs-test.false in let b = c.loop-pairs.auto in
+    let asked = c.args.asked.now in
+    let groups = c.args.groups.now in
+    let first : Seen = record { wire = g.W.Wire.told c.args.wire.now; wire_faults = g.W.Wire.faults c.args.wire.now; luck = g.U.Luck.told c.args.luck.now; out = g.O.Sink.told c.args.out.now; out_faults = g.O.Sink.faults c.args.out.now } in
+    let before : Seen = record { wire = g.W.Wire.told c.loop-pairs.wire; wire_faults = g.W.Wire.faults c.loop-pairs.wire; luck = g.U.Luck.told c.loop-pairs.luck; out = g.O.Sink.told c.loop-pairs.out; out_faults = g.O.Sink.faults c.loop-pairs.out } in
+    let at = c.loop-pairs.progress in
+    let i = c.loop-pairs.pairs-index in
+    Goes-trans (client_run asked (requests groups)) (packets asked at.id at.bad (repeated asked.count (requests (drop i groups)))) (ended (Finished at.bad)) first before before
+    c.loop-pairs.invariant (groups_end asked at.id at.bad groups i before (drop_all i groups (omega arith)))
