@@ -5,3 +5,4 @@ pub mod Printed
 pub mod Tries
 pub mod Makings
 pub mod Packets
+pub mod Readings

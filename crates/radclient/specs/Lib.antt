@@ -4,3 +4,6 @@ pub mod Making
 pub mod Answers
 pub mod Client
 pub mod Seen
+pub mod Groups
+pub mod Words
+pub mod Plans

@@ -6,6 +6,8 @@
 
 mod asked;
 mod asking;
+mod fault;
+mod groups;
 mod lines;
 mod making;
 mod printing;
@@ -13,5 +15,6 @@ mod running;
 mod sending;
 mod serving;
 mod stop;
+mod words;
 
 pub use asked::{Asked, Kind};
