@@ -6,3 +6,4 @@ pub mod Tries
 pub mod Makings
 pub mod Packets
 pub mod Readings
+pub mod Endings

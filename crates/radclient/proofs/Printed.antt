@@ -1,5 +1,5 @@
 -- Lines that are printed, and their end where the sink fails.
-use Rattle.std.proofs.Common.{◌≡◌, ℕ, ◌+◌, ◌≤◌, Bool, true, false, cond, List, [], ◌∷◌, ◌++◌, take, drop, Option, Some, None, Result, Ok, Err, MatchResult, refl, sym, ap, subst, ◌∙◌, append_assoc, append-nil, length, arith}
+use Rattle.std.proofs.Common.{◌≡◌, ℕ, ◌+◌, ◌≤◌, Bool, true, false, cond, List, [], ◌∷◌, ◌++◌, take, drop, Option, Some, None, Result, Ok, Err, MatchResult, IsErr, inl, inr, refl, sym, ap, subst, ◌∙◌, append_assoc, append-nil, length, arith}
 use Rattle.std.specs.Prelude.{◌==◌, slice_get}
 use Rattle.std.specs.List.{flat_map}
 use Rattle.std.proofs.lemmas.List.{take-append-drop, take_all}
@@ -8,7 +8,7 @@ use Rattle.std.proofs.lemmas.List.{drop_all}
 use Rattle.rad_value.specs.declared.values.Pair.{Pair}
 use Rattle.rad_outside.specs.declared.fault.Failed.{Failed}
 use Rattle.rad_outside.specs.Sink.{Writes}
-use Rattle.rad_outside.specs.Telling.{Tells}
+use Rattle.rad_outside.specs.Telling.{Tells, Counts}
 use Rattle.rad_wire.proofs.Fitting.{drop_at_get}
 use Rattle.radclient.specs.Answers.{Act, ToCome, saying, with_front}
 use Rattle.radclient.specs.Lines.{pair_line, pair_lines, unless_quiet}
@@ -16,6 +16,7 @@ use Rattle.radclient.specs.Seen.{Seen, Gains, Goes, Reaches, IsCutOff, Stops}
 use Rattle.radclient.specs.declared.asked.Asked.{Asked}
 use Rattle.radclient.specs.declared.stop.Stop.{Stop}
 use Rattle.radclient.specs.Client.{lines_at}
+use Rattle.radclient.specs.Program.{Says}
 use Rattle.radclient.proofs.Reaching.{Gains-nothing, Goes-same}
 
 -- ---- lines of pairs
@@ -111,3 +112,23 @@ pub said_of : (one other : List ℕ) (next : Act) (a b : Seen) (result : Result 
     → MatchResult result (λ _. Goes (saying other next) next a b) (λ stop. Stops (saying other next) stop a b)
 said_of one other next a b result same said =
     subst (λ (lines : List ℕ). MatchResult result (λ _. Goes (saying lines next) next a b) (λ stop. Stops (saying lines next) stop a b)) same said
+
+-- what one write prints
+pub says_of : (lines : List ℕ) (result : Result (Unit {0}) Failed) (before : Seen) (out : Option (List ℕ)) (faults : ℕ) → Counts before.out_faults faults (IsErr result)
+    → Tells before.out out (Writes lines result) → Says lines before (after_write before out faults)
+says_of lines (Ok done) before out faults counts tells = record {
+  printed = lines;
+  unwritten = [];
+  front = sym (append-nil lines);
+  gains = gains_printed lines before out faults counts.later (written_whole lines before.out out tells);
+  whole = inl refl;
+}
+says_of lines (Err failed) before out faults counts tells =
+    let front = written_front lines failed before.out out tells in
+    record {
+      printed = front.0;
+      unwritten = front.1;
+      front = front.2;
+      gains = gains_printed front.0 before out faults counts.later front.3;
+      whole = inr (counts.cause refl);
+    }

@@ -7,3 +7,4 @@ pub mod Seen
 pub mod Groups
 pub mod Words
 pub mod Plans
+pub mod Program

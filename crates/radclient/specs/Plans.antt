@@ -1,4 +1,5 @@
 -- What a command line asks for, as it is lent by its words. This serves private clauses.
+use Rattle.radclient.specs.declared.words.Order.{Order}
 use Rattle.radclient.specs.declared.words.Plan.{Plan}
 use Rattle.radclient.specs.Words.{Line}
 
@@ -16,3 +17,6 @@ seen_plan plan = record {
   };
   file = plan.file.now;
 }
+
+abbrev pub line_as : Order → Line
+line_as order = record { asked = order.asked; file = order.file }

@@ -4,6 +4,7 @@ use Rattle.std.specs.Str.{bytes_eq}
 use Rattle.rad_outside.specs.declared.listen.Peer.{Peer}
 use Rattle.rad_text.specs.Addresses.{address_of}
 use Rattle.rad_text.specs.Find.{◌>>=◌}
+use Rattle.rad_text.specs.Numerals.{below}
 use Rattle.rad_args.specs.declared.item.Item.{Item}
 use Rattle.rad_args.specs.Found.{plain_words, value_of}
 use Rattle.rad_args.specs.Numbers.{number_in}
@@ -35,10 +36,10 @@ host_len (c ∷ rest) = if c == 58 then 0 else suc (host_len rest)
 abbrev pub host_of : List ℕ → Option ℕ
 host_of word = if bytes_eq word (codes "localhost") then Some 2130706433 else address_of word
 
--- A port behind a colon, or this one where nothing stands there.
+-- A port of 16 bits behind a colon, or this one where nothing stands there.
 abbrev pub port_of : ℕ → List ℕ → Option ℕ
 port_of port [] = Some port
-port_of port (c ∷ digits) = number_in 1 65535 digits
+port_of port (c ∷ digits) = number_in 1 65535 digits >>= below 65536
 
 -- `SERVER[:PORT]`
 unfoldable pub server_of : ℕ → List ℕ → Option Peer
@@ -84,18 +85,18 @@ asked_by items server kind secret = do
     file = file_or (value_of 102 items);
   })
 
+-- Nothing may follow.
+abbrev pub last : Option (List ℕ) → Option Line → Option Line
+last None line = line
+last (Some word) line = None
+
 -- The plain words are three.
-abbrev pub line_of_items : List Item → Option Line
-line_of_items items = elim (plain_words items) [
-  | [] ↦ None
-  | server ∷ words ↦ elim words [
-    | [] ↦ None
-    | kind ∷ words ↦ elim words [
-      | [] ↦ None
-      | secret ∷ words ↦ elim words [ [] ↦ asked_by items server kind secret | word ∷ words ↦ None ]
-    ]
-  ]
-]
+unfoldable pub line_of_items : List Item → Option Line
+line_of_items items = do
+  server ← slice_get (plain_words items) 0
+  kind ← slice_get (plain_words items) 1
+  secret ← slice_get (plain_words items) 2
+  last (slice_get (plain_words items) 3) (asked_by items server kind secret)
 
 -- What a command line asks for, or nothing where its words are others.
 abbrev pub line_of : List (List ℕ) → Option Line

@@ -6,6 +6,7 @@
 
 mod asked;
 mod asking;
+mod ending;
 mod fault;
 mod groups;
 mod lines;
@@ -14,7 +15,9 @@ mod printing;
 mod running;
 mod sending;
 mod serving;
+mod status;
 mod stop;
+mod top;
 mod words;
 
-pub use asked::{Asked, Kind};
+pub use top::radclient;

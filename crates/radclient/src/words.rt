@@ -2,8 +2,9 @@
 
 ghost use Rattle.std.specs.Prelude.{◌≡◌, ◌≤◌, IfOk, List, ℕ, map, string_bytes, length, codes};
 ghost use Rattle.std.specs.Option.{option_copied, option_map};
+ghost use Rattle.std.specs.Str.{bytes_eq};
 ghost use Rattle.rad_args.specs.declared.item.Item.{Item};
-ghost use Rattle.radclient.specs.Plans.{seen_plan};
+ghost use Rattle.radclient.specs.Plans.{line_as, seen_plan};
 ghost use Rattle.radclient.specs.Words.{ asked_by, file_or, host_len, host_of, kind_of, line_of, line_of_items, number_or, port_for, port_of, secret_of, server_of};
 
 use crate::asked::{Asked, Kind};
@@ -51,13 +52,21 @@ fn host_len(word: &[u8]) -> usize
     len
 }
 
+/// Whether the word is `localhost`.
+fn is_localhost(word: &[u8]) -> bool
+    ensures { result ≡ bytes_eq word.now (codes "localhost") }
+{
+    word == b"localhost".as_slice()
+}
+
 /// An address, or `localhost`, which is 127.0.0.1.
 fn host_of(word: &[u8]) -> Option<u32>
     ensures { result ≡ host_of word.now }
 {
-    match word {
-        b"localhost" => Some(2_130_706_433),
-        _ => address_of(word),
+    if is_localhost(word) {
+        Some(2_130_706_433)
+    } else {
+        address_of(word)
     }
 }
 
@@ -69,7 +78,11 @@ fn port_of(port: u16, word: &[u8]) -> Option<u16>
         [] => Some(port),
         [_, digits @ ..] => {
             let number = number_in(1, 65535, digits)?;
-            u16::try_from(number).ok()
+            if number < 65536 {
+                Some(number as u16)
+            } else {
+                None
+            }
         }
     }
 }
@@ -157,4 +170,58 @@ fn plan_by<'a>(
         shown: given.has(b'x'),
         file: file_or(given.value(b'f')),
     })
+}
+
+/// What a command line asks for, lent by its words, or none where they are others.
+#[tactic(auto, unfolding(crate::specs::Words::line_of_items))]
+fn plan_of(given: &Arguments) -> Option<Plan<'_>>
+    ensures { option_map seen_plan result ≡ line_of_items given.now }
+{
+    let server = given.plain(0)?;
+    let kind = given.plain(1)?;
+    let secret = given.plain(2)?;
+    if given.plain(3).is_some() {
+        return None;
+    }
+    plan_by(given, server, kind, secret)
+}
+
+/// What a command line asks for, and the file that it names.
+#[derive(Drop)]
+pub(crate) struct Order {
+    pub(crate) asked: Asked,
+    pub(crate) file: Octets,
+}
+
+/// The same that owns its octets.
+fn owned(alloc: Global, plan: Plan) -> Result<Order, NoMemory>
+    ensures { IfOk result (λ line. line_as line ≡ seen_plan plan) }
+{
+    let file = Octets::of(alloc, plan.file)?;
+    Ok(Order {
+        asked: Asked {
+            server: plan.server,
+            kind: plan.kind,
+            secret: Octets::of(alloc, plan.secret)?,
+            count: plan.count,
+            tries: plan.tries,
+            waits: plan.waits,
+            quiet: plan.quiet,
+            shown: plan.shown,
+        },
+        file,
+    })
+}
+
+/// What the words of a command line ask for, or none where they are others.
+pub(crate) fn order_of(alloc: Global, words: &[String]) -> Result<Option<Order>, NoMemory>
+    ensures { IfOk result (λ line. option_map line_as line ≡ line_of (map string_bytes words.now)) }
+{
+    match Arguments::read(alloc, b"xq", b"fcrt", words)? {
+        None => Ok(None),
+        Some(given) => match plan_of(&given) {
+            None => Ok(None),
+            Some(plan) => Ok(Some(owned(alloc, plan)?)),
+        },
+    }
 }
