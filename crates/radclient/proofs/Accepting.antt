@@ -35,16 +35,18 @@ packet_yes octets passes =
     let four = and_parts (header && limit && counted && spells) fits passes in
     let three = and_parts (header && limit && counted) spells four.0 in
     let two = and_parts (header && limit) counted three.0 in
-    let one = and_parts header limit two.0 in
-    (attributes_of octets, record {
-      header = leb-true 20 (length octets) one.0;
-      limit = leb-true (length octets) 4096 one.1;
-      counted = eqb-true (length_of octets) (length octets) two.1;
-      rest = record {
-        joined = sym ((bytes_eq-Decides (flat_map spelled (attributes_of octets)) (drop 20 octets)).0 three.1);
-        fit = fit_yes (attributes_of octets) four.1;
-      };
-    })
+    let one = and_parts header limit two.0 in (
+      attributes_of octets,
+      record {
+        header = leb-true 20 (length octets) one.0;
+        limit = leb-true (length octets) 4096 one.1;
+        counted = eqb-true (length_of octets) (length octets) two.1;
+        rest = record {
+          joined = sym ((bytes_eq-Decides (flat_map spelled (attributes_of octets)) (drop 20 octets)).0 three.1);
+          fit = fit_yes (attributes_of octets) four.1;
+        };
+      },
+    )
 
 packet_no : (octets : List ℕ) → IsWellFormed octets → is_packet octets ≡ true
 packet_no octets well =

@@ -28,7 +28,7 @@ gains_answer answer before wire faults later tells = record {
 }
 
 -- what is done by what an answer is
-abbrev resumed : Asked → List ℕ → ℕ → (Option (List ℕ) → Act) → Judged → Act
+abbrev pub resumed : Asked → List ℕ → ℕ → (Option (List ℕ) → Act) → Judged → Act
 resumed asked request waits next judgement = elim judgement [
   | Reply octets ↦ next (Some octets)
   | Other ↦ awaited asked request waits next

@@ -7,3 +7,4 @@ pub mod Makings
 pub mod Packets
 pub mod Readings
 pub mod Endings
+pub mod Resends

@@ -101,9 +101,9 @@ pub data Ran (act : Act) (file : List ℕ) (before now : Seen) : Status → Type
   Good : Goes act (ended (Finished 0)) before now → Ran act file before now status.Done
   Bad : (bad : ℕ) → 0 < bad → Goes act (ended (Finished bad)) before now → Ran act file before now status.Unanswered
   Unsendable : (why : Unmade) (mid : Seen) → Goes act (ended (NotMade why)) before mid → Says (unmade_line file why) mid now
-    → Ran act file before now status.Refused
+      → Ran act file before now status.Refused
   Broken : (mid : Seen) → Goes act (ended SocketFault) before mid → Rose before.wire_faults mid.wire_faults
-    → Says socket_fault_line mid now → Ran act file before now status.SocketFault
+      → Says socket_fault_line mid now → Ran act file before now status.SocketFault
   Unwritten : IsCutOff act before now → Rose before.out_faults now.out_faults → Ran act file before now status.WriteFault
   Starved : IsCutOff act before now → Ran act file before now status.NoMemory
 
@@ -126,9 +126,9 @@ pairs_of_groups groups = map (λ (l : PairLists). l.request) groups
 -- before the first.
 pub data Tail (asked : Asked) (file octets : List ℕ) (before now : Seen) : Status → Type 0 where
   Misread : (fault : LineFault) → groups_of octets ≡ Err fault → Says (fault_line file fault) before now
-    → Tail asked file octets before now status.Refused
+      → Tail asked file octets before now status.Refused
   Tried : (groups : List PairLists) (ended : Status) → groups_of octets ≡ Ok groups
-    → Ran (client_run asked (pairs_of_groups groups)) file before now ended → Tail asked file octets before now ended
+      → Ran (client_run asked (pairs_of_groups groups)) file before now ended → Tail asked file octets before now ended
   Hungry : now ≡ before → Tail asked file octets before now status.NoMemory
 
 -- What reading a file gave.
@@ -141,10 +141,10 @@ Read path files_before files_now faults_before faults_now (Err failed) = Unit {0
 -- read, which is told; what its octets gave was done; or memory ran out before anything was.
 pub data Ends (words : List (List ℕ)) (files_before files_now : Option FilesTold) (faults_before faults_now : ℕ) (before now : Seen) : Status → Type 0 where
   Misworded : line_of words ≡ None → Says usage_line before now
-    → Ends words files_before files_now faults_before faults_now before now status.Refused
+      → Ends words files_before files_now faults_before faults_now before now status.Refused
   Unread : (line : Line) → line_of words ≡ Some line → Lacks files_before files_now faults_before faults_now line.file
-    → Says read_fault_line before now → Ends words files_before files_now faults_before faults_now before now status.ReadFault
+      → Says read_fault_line before now → Ends words files_before files_now faults_before faults_now before now status.ReadFault
   Served : (line : Line) (octets : List ℕ) (ended : Status) → line_of words ≡ Some line
-    → Holds files_before files_now line.file octets → Tail line.asked line.file octets before now ended
-    → Ends words files_before files_now faults_before faults_now before now ended
+      → Holds files_before files_now line.file octets → Tail line.asked line.file octets before now ended
+      → Ends words files_before files_now faults_before faults_now before now ended
   Starving : now ≡ before → Ends words files_before files_now faults_before faults_now before now status.NoMemory

@@ -9,6 +9,7 @@ mod asking;
 mod ending;
 mod fault;
 mod groups;
+mod laws;
 mod lines;
 mod making;
 mod printing;
@@ -20,4 +21,5 @@ mod stop;
 mod top;
 mod words;
 
+pub use laws::{replies_are_taken_as_they_are_accepted, resends_have_the_same_octets};
 pub use top::radclient;

@@ -151,7 +151,14 @@ pub(crate) fn reply_lines(
     };
     let pairs = decode(alloc, &packet, asked.secret.as_slice(), dict)?;
     let mut text = Vec::new(alloc);
-    put_packet_line(alloc, &mut text, b"Received ", octets, b" from ", asked.server)?;
+    put_packet_line(
+        alloc,
+        &mut text,
+        b"Received ",
+        octets,
+        b" from ",
+        asked.server,
+    )?;
     put_pair_lines(alloc, &mut text, &pairs, dict)?;
     Ok(text)
 }

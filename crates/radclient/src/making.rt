@@ -64,7 +64,14 @@ fn request_of(
 {
     let authenticator = authenticator_of(high, low);
     let code = code_for(asked.kind);
-    match request_bytes(alloc, code, id, &authenticator, pairs, asked.secret.as_slice()) {
+    match request_bytes(
+        alloc,
+        code,
+        id,
+        &authenticator,
+        pairs,
+        asked.secret.as_slice(),
+    ) {
         Ok(request) => Ok(request),
         Err(fault) => Err(stop_of(fault)),
     }

@@ -104,8 +104,7 @@ pub(crate) fn run<W: Wire, U: Luck, O: Sink>(
     out: &mut O,
 ) -> Result<u64, Stop>
     requires { dict.now ≡ base_definitions }
-    ensures {
-        let before : Seen = record { wire = W.told wire.old; wire_faults = W.faults wire.old; luck = U.told luck.old; out = O.told out.old; out_faults = O.faults out.old } in
+    ensures { let before : Seen = record { wire = W.told wire.old; wire_faults = W.faults wire.old; luck = U.told luck.old; out = O.told out.old; out_faults = O.faults out.old } in
         let now : Seen = record { wire = W.told wire.new; wire_faults = W.faults wire.new; luck = U.told luck.new; out = O.told out.new; out_faults = O.faults out.new } in
         let act = client_run asked.now (map (λ (l : PairLists). l.request) groups.now) in
         MatchResult result (λ bad. Goes act (ended (Finished bad)) before now) (λ stop. Stops act stop before now) }

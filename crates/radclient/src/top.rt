@@ -21,7 +21,8 @@ use rad_value::Lists;
 use std::alloc::Global;
 
 /// What the words are, where they are others.
-const USAGE: &[u8] = b"usage: radclient [-f FILE] [-x] [-c N] [-r N] [-t N] [-q] SERVER[:PORT] auth|acct SECRET\n";
+const USAGE: &[u8] =
+    b"usage: radclient [-f FILE] [-x] [-c N] [-r N] [-t N] [-q] SERVER[:PORT] auth|acct SECRET\n";
 
 /// The line of a wire that failed.
 const SOCKET_FAULT: &[u8] = b"socket fault\n";
@@ -74,9 +75,7 @@ fn try_groups<W: Wire, U: Luck, O: Sink>(
         (record { wire = W.told wire.new; wire_faults = W.faults wire.new; luck = U.told luck.new; out = O.told out.new; out_faults = O.faults out.new }) result }
 {
     match read_groups(alloc, octets, dict) {
-        Ok(groups) => {
-            try_packets(alloc, asked, file, dict, groups.as_slice(), wire, luck, out)
-        }
+        Ok(groups) => { try_packets(alloc, asked, file, dict, groups.as_slice(), wire, luck, out) }
         Err(ReadError::Wrong(fault)) => refuse_file(alloc, file, fault, out),
         Err(ReadError::NoMemory) => Status::NoMemory,
     }
@@ -96,7 +95,11 @@ fn read_path<F: Files>(alloc: Global, files: &mut F, path: &str) -> Result<Optio
 }
 
 /// The same where the path may be no text.
-fn read_file<F: Files>(alloc: Global, files: &mut F, path: &[u8]) -> Result<Option<Octets>, NoMemory>
+fn read_file<F: Files>(
+    alloc: Global,
+    files: &mut F,
+    path: &[u8],
+) -> Result<Option<Octets>, NoMemory>
     ensures { Read path.now (F.told files.old) (F.told files.new) (F.faults files.old) (F.faults files.new) result }
 {
     match str::from_utf8(path) {
@@ -164,7 +167,15 @@ fn run_words<F: Files, W: Wire, U: Luck, O: Sink>(
         (record { wire = W.told wire.new; wire_faults = W.faults wire.new; luck = U.told luck.new; out = O.told out.new; out_faults = O.faults out.new }) result }
 {
     match order_of(alloc, words) {
-        Ok(Some(order)) => try_file(alloc, &order.asked, order.file.as_slice(), files, wire, luck, out),
+        Ok(Some(order)) => try_file(
+            alloc,
+            &order.asked,
+            order.file.as_slice(),
+            files,
+            wire,
+            luck,
+            out,
+        ),
         Ok(None) => {
             tell(out, USAGE);
             Status::Refused

@@ -5,7 +5,7 @@ ghost use Rattle.std.specs.Option.{option_copied, option_map};
 ghost use Rattle.std.specs.Str.{bytes_eq};
 ghost use Rattle.rad_args.specs.declared.item.Item.{Item};
 ghost use Rattle.radclient.specs.Plans.{line_as, seen_plan};
-ghost use Rattle.radclient.specs.Words.{ asked_by, file_or, host_len, host_of, kind_of, line_of, line_of_items, number_or, port_for, port_of, secret_of, server_of};
+ghost use Rattle.radclient.specs.Words.{asked_by, file_or, host_len, host_of, kind_of, line_of, line_of_items, number_or, port_for, port_of, secret_of, server_of};
 
 use crate::asked::{Asked, Kind};
 use rad_args::{Arguments, number_in};
@@ -195,7 +195,7 @@ pub(crate) struct Order {
 
 /// The same that owns its octets.
 fn owned(alloc: Global, plan: Plan) -> Result<Order, NoMemory>
-    ensures { IfOk result (λ line. line_as line ≡ seen_plan plan) }
+    ensures { IfOk result (λ line. line_as line ≡ seen_plan plan.entry) }
 {
     let file = Octets::of(alloc, plan.file)?;
     Ok(Order {

@@ -42,7 +42,7 @@ loop-left-preserved g c = record {
       let left = c.loop-left.left in
       let so_far = Goes-trans (tried asked request lines asked.tries next) (tried asked request lines left next) (one_try asked request lines left next) first before before
       (c.loop-left.invariant.goes next luck) (tries_once asked request lines next left c.loop-left-test.true before) in
-  Goes-trans (tried asked request lines asked.tries next) (one_try asked request lines left next) (tried asked request lines (left - 1) next) first before now so_far
+      Goes-trans (tried asked request lines asked.tries next) (one_try asked request lines left next) (tried asked request lines (left - 1) next) first before now so_far
       ((rw c.in-Ok-None.field-0-is at c.in-Ok-None.ensures.goes) (again asked request lines (left - 1) next) luck);
   long = c.try_once.ensures.buffer;
 }
