@@ -2,7 +2,7 @@
 
 use crate::scopes::{NoScope, Setting, setting_of};
 use rad_dict::Dict;
-use rad_outside::NoMemory;
+use rad_outside::{LAST_MOMENT, NoMemory};
 use rad_value::Scope;
 use shared_cases::{Case, Subject, push_number};
 use std::alloc::Global;
@@ -48,7 +48,7 @@ fn nested(alloc: Global, setting: &Setting, condition: &[u8]) -> Result<Vec<u8>,
 
 /// Whether the condition holds, and the captures then.
 fn held(alloc: Global, cond: &Cond, mut scope: Scope, dict: &Dict) -> Result<Vec<u8>, NoMemory> {
-    if scope.moment > 250_000_000_000 {
+    if scope.moment > LAST_MOMENT {
         return said(alloc, b"the moment is too late");
     }
     let holds = cond.holds(alloc, &mut scope, dict)?;

@@ -2,7 +2,7 @@
 
 use crate::scopes::{NoScope, scope_of};
 use rad_dict::Dict;
-use rad_outside::{NoMemory, Octets};
+use rad_outside::{LAST_MOMENT, NoMemory, Octets};
 use rad_value::Scope;
 use shared_cases::{Case, Subject, push_number};
 use std::alloc::Global;
@@ -40,7 +40,7 @@ fn expanded(
     scope: &Scope,
     dict: &Dict,
 ) -> Result<Vec<u8>, NoMemory> {
-    if scope.moment > 250_000_000_000 {
+    if scope.moment > LAST_MOMENT {
         return said(alloc, b"the moment is too late");
     }
     let text: Octets = if call == b"path".as_slice() {

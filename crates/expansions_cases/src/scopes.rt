@@ -3,7 +3,7 @@
 //! which the pair's value is the loop's.
 
 use rad_dict::Dict;
-use rad_outside::{NoMemory, Octets, Peer};
+use rad_outside::{LAST_MOMENT, NoMemory, Octets, Peer};
 use rad_pairs::{PairFault, read_pairs};
 use rad_value::{ListName, Lists, Pair, Scope, Value};
 use shared_cases::{after_word, decimal};
@@ -165,7 +165,7 @@ pub fn scope_of(
         addr: from,
         port: 0,
     };
-    let moment = moment.min(250_000_000_000);
+    let moment = moment.min(LAST_MOMENT);
     let mut scope = Scope::new(lists, from, moment, 0, [0; 16]);
     scope.captures = captures;
     scope.loops = loops;

@@ -1,7 +1,7 @@
 ghost use Rattle.std.specs.Prelude.{◌≡◌, true, IfOk, OnErr};
 ghost use Rattle.rad_words.specs.declared.sections.Section.{Section};
 ghost use Rattle.rad_words.specs.declared.sections.Section.TheVariants.{Accounting};
-ghost use Rattle.rad_value.specs.Scope.{IsInTime};
+ghost use Rattle.rad_outside.specs.Moments.{IsInTime};
 ghost use Rattle.rad_dict.specs.Definitions.{Definitions};
 ghost use Rattle.mod_base.specs.Methods.{has_method};
 ghost use Rattle.mod_base.specs.Meaning.{Meaning, IsLawful};

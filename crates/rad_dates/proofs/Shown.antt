@@ -12,6 +12,7 @@ use Rattle.rad_dates.proofs.DateLaws.{is_its_own}
 use Rattle.jiff_core.proofs.CalendarLemmas.{days_from_civil-day_count, day_count-epoch, day_count-lt_year, day_count-next_year, day_count-day_of_year, weekday_number-parts}
 use Rattle.rad_dates.specs.declared.civil.Civil.{Civil}
 use Rattle.rad_dates.specs.Calendar.{days_in_year, days_in_month, days_of_years, days_of_months, day_number, weekday_of, seconds_of, IsDate}
+use Rattle.rad_outside.specs.Moments.{IsInTime}
 
 year_sum : (count year : ℕ) → jiff.day_count (pos (year + count)) 1 1 ≡ jiff.day_count (pos year) 1 1 + days_of_years year count
 unfolding days_of_years
@@ -125,7 +126,7 @@ pub cast16 : (z : ℤ) (n : ℕ) → z ≡ pos n → n < 32768 → nat_abs (to_z
 cast16 z n e few = ap nat_abs (whole16 z n e few)
 
 -- A moment as jiff takes it.
-pub nanos_from : (shown : DateTime) (moment : ℕ) (instant : ℤ) → moment ≤ 250000000000 → instant ≡ to_z w64 moment *ℤ pos 1000000000 +ℤ pos 0 → civil_nanos shown ≡ instant +ℤ pos 0 → civil_nanos shown ≡ pos (moment * 1000000000)
+pub nanos_from : (shown : DateTime) (moment : ℕ) (instant : ℤ) → IsInTime moment → instant ≡ to_z w64 moment *ℤ pos 1000000000 +ℤ pos 0 → civil_nanos shown ≡ instant +ℤ pos 0 → civil_nanos shown ≡ pos (moment * 1000000000)
 nanos_from shown moment instant few taken e =
     let plain : to_z w64 moment ≡ pos moment = to_z_pos w64 moment (omega arith) in
     omega (arith, signed_arith, e, rw plain at taken)

@@ -3,10 +3,6 @@
 use Rattle.std.specs.Prelude.{ℕ, zero, suc, ◌≡◌, ◌+◌, ◌-◌, ◌*◌, ◌%◌, ◌<◌, ◌≤◌, Bool, not, ◌&&◌, ◌||◌, ◌==◌, if◌then◌else◌}
 use Rattle.rad_dates.specs.declared.civil.Civil.{Civil}
 
--- A moment up to which dates are shown: the seconds since 1970 up to a day of the year 9892.
-abbrev pub IsInTime : ℕ → Type 0
-IsInTime moment = moment ≤ 250000000000
-
 -- Every fourth year has a leap day, but of those that end a century only every fourth.
 abbrev pub is_leap_year : ℕ → Bool
 is_leap_year year = (year % 4 == 0) && (not (year % 100 == 0) || (year % 400 == 0))

@@ -1,7 +1,8 @@
 //! The date of a moment.
 
 ghost use Rattle.std.specs.Prelude.{◌≡◌};
-ghost use Rattle.rad_dates.specs.Calendar.{IsInTime, IsDate};
+ghost use Rattle.rad_dates.specs.Calendar.{IsDate};
+ghost use Rattle.rad_outside.specs.Moments.{IsInTime};
 ghost use Rattle.rad_dates.specs.Dates.{date_of};
 
 use jiff::Timestamp;

@@ -2,7 +2,8 @@
 
 ghost use Rattle.std.specs.Prelude.{◌≡◌, ◌++◌, ◌*◌, ◌<◌, ◌≤◌, length, OnOk, IfOk};
 ghost use Rattle.std.specs.Int.{IsInRange};
-ghost use Rattle.rad_dates.specs.Calendar.{IsInTime, IsDate};
+ghost use Rattle.rad_dates.specs.Calendar.{IsDate};
+ghost use Rattle.rad_outside.specs.Moments.{IsInTime};
 ghost use Rattle.rad_dates.specs.Stamp.{name_then, weekday_then, month_then, time_text, day_text, stamp_text, stamp, date_time_text};
 
 use crate::civil::{Civil, date_of};

@@ -4,6 +4,7 @@ use Rattle.std.specs.Char.{to_ascii_lowercase}
 use Rattle.std.specs.Fmt.{decimal}
 use Rattle.std.specs.List.{flat_map}
 use Rattle.std.specs.Str.{bytes_eq}
+use Rattle.rad_outside.specs.Moments.{last_moment}
 use Rattle.rad_text.specs.Addresses.{dotted}
 use Rattle.rad_dates.specs.Dates.{date_of}
 use Rattle.rad_dates.specs.Padded.{left_in, right_in}
@@ -39,7 +40,7 @@ raw_line s =
 
 -- When a session began, as a date; as a number where it is later than dates are shown.
 abbrev pub since_text : ℕ → List ℕ
-since_text since = if nat_le since 250000000000 then date_time_text (date_of since) else decimal since
+since_text since = if nat_le since last_moment then date_time_text (date_of since) else decimal since
 
 -- The columns of a session, with a blank behind each: the user at the left of 20 places, the port at the right of 10, when
 -- it began, and addresses at the left of 15.

@@ -5,13 +5,10 @@ ghost use Rattle.radwho.specs.Lines.{since_text, user_column, port_column, since
 
 use crate::escapes::put_escaped;
 use rad_dates::{date_of, put_date_time, put_left, put_number};
-use rad_outside::NoMemory;
+use rad_outside::{LAST_MOMENT, NoMemory};
 use rad_sessions::Session;
 use rad_text::{put_decimal, put_dotted};
 use std::alloc::Global;
-
-/// The last moment that is shown as a date, in seconds since 1970.
-const LAST_DATE: u64 = 250_000_000_000;
 
 /// Adds a user's name as a column.
 #[tactic(auto, unfolding(crate::specs::Lines::user_column))]
@@ -39,7 +36,7 @@ fn put_port(alloc: Global, text: &mut Vec<u8>, port: u32) -> Result<(), NoMemory
 fn put_since(alloc: Global, text: &mut Vec<u8>, since: u64) -> Result<(), NoMemory>
     ensures { OnOk result (text.new.items ≡ text.old.items ++ since_text since) }
 {
-    if since <= LAST_DATE {
+    if since <= LAST_MOMENT {
         put_date_time(alloc, text, date_of(since))
     } else {
         put_decimal(alloc, text, since)

@@ -5,7 +5,7 @@ use Rattle.std.proofs.Common.{◌≡◌, ℕ, ◌+◌, ◌<◌, Bool, true, fals
 use Rattle.rad_words.specs.declared.codes.Code.{Code}
 use Rattle.rad_words.specs.declared.sections.Section.{Section}
 use Rattle.rad_value.specs.declared.scope.Scope.{Scope}
-use Rattle.rad_value.specs.Scope.{IsInTime}
+use Rattle.rad_outside.specs.Moments.{IsInTime}
 use Rattle.rad_dict.specs.Definitions.{Definitions}
 use Rattle.rad_world.specs.World.{WorldState}
 use Rattle.mod_base.specs.Situation.{Situation, situation_in}

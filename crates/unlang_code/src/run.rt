@@ -2,7 +2,7 @@
 
 ghost use Rattle.std.specs.Prelude.{◌≡◌, true, IfOk, OnOk, OnErr};
 ghost use Rattle.rad_words.specs.declared.sections.Section.TheVariants.{Accounting};
-ghost use Rattle.rad_value.specs.Scope.{IsInTime};
+ghost use Rattle.rad_outside.specs.Moments.{IsInTime};
 ghost use Rattle.mod_base.specs.Reaching.{Reaches, Stops};
 ghost use Rattle.unlang_code.specs.Run.{called, updated, one_child, IsUpdate, statement_done, section_done};
 ghost use Rattle.unlang_code.specs.Serving.{IsServed, IsKindServed, AreServed};

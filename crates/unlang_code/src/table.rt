@@ -3,7 +3,7 @@
 ghost use Rattle.std.specs.Prelude.{◌≡◌, true, find, position, IsSome, IfOk, OnErr};
 ghost use Rattle.std.specs.Option.{option_copied, option_map};
 ghost use Rattle.rad_words.specs.declared.sections.Section.TheVariants.{Accounting};
-ghost use Rattle.rad_value.specs.Scope.{IsInTime};
+ghost use Rattle.rad_outside.specs.Moments.{IsInTime};
 ghost use Rattle.mod_base.specs.Reaching.{Reaches, Stops};
 ghost use Rattle.unlang_code.specs.Run.{section_of};
 ghost use Rattle.unlang_code.specs.Sections.{in_32_bits, server_of, subsection_of, section_in, found, statements_of, statements_in, is_server_named, is_named, is_of_kind};

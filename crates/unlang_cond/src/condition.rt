@@ -23,7 +23,7 @@ pub struct Cond {
 
 impl Cond {
     ghost use Rattle.std.specs.Prelude.{IfOk, IfErr};
-    ghost use Rattle.rad_value.specs.Scope.{IsInTime};
+    ghost use Rattle.rad_outside.specs.Moments.{IsInTime};
     ghost use Rattle.unlang_cond.specs.Tests.{OnlyCaptures};
     ghost use Rattle.unlang_cond.specs.Trees.{holds};
     ghost use Rattle.unlang_cond.specs.Conditions.{condition_of, IsReadAs, IsFaultOf};

@@ -2,7 +2,7 @@
 
 ghost use Rattle.std.specs.Prelude.{◌≡◌, IfOk};
 ghost use Rattle.rad_text.specs.Read.{Gives};
-ghost use Rattle.rad_value.specs.Scope.{IsInTime};
+ghost use Rattle.rad_outside.specs.Moments.{IsInTime};
 ghost use Rattle.unlang_cond.specs.Expansions.{error_of, expansion_of, expansion_text};
 
 use crate::fault::Wrong;

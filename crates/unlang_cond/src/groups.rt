@@ -2,7 +2,7 @@
 
 ghost use Rattle.std.specs.Prelude.{◌≡◌, [], ◌∷◌, IfOk, OnOk};
 ghost use Rattle.std.specs.Option.{option_copied};
-ghost use Rattle.rad_value.specs.Scope.{IsInTime};
+ghost use Rattle.rad_outside.specs.Moments.{IsInTime};
 ghost use Rattle.unlang_cond.specs.Tests.{OnlyCaptures};
 ghost use Rattle.unlang_cond.specs.Machine.{settled, opened, alternative, shut, fresh_group, groups_of, opening, closing, atom_taken, advance, is_met, top_met};
 

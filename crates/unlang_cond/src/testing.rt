@@ -2,7 +2,7 @@
 
 ghost use Rattle.std.specs.Prelude.{◌≡◌, [], ◌∷◌, IfOk};
 ghost use Rattle.std.specs.Option.{option_copied};
-ghost use Rattle.rad_value.specs.Scope.{IsInTime};
+ghost use Rattle.rad_outside.specs.Moments.{IsInTime};
 ghost use Rattle.unlang_reference.specs.Values.{values_of};
 ghost use Rattle.unlang_cond.specs.Tests.{is_code, side_text, is_present, operand_values, one_holds, values_hold, both_hold, look_in, test, OnlyCaptures};
 

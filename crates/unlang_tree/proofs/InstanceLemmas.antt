@@ -7,7 +7,7 @@ use Rattle.std.specs.declared.vec.Vec.{Vec}
 use Rattle.std.specs.declared.alloc.Global.{Global}
 use Rattle.indexmap.specs.IndexMap.{IndexMap, get, get_by, insert_entry}
 use Rattle.indexmap.proofs.CallerLemmas.{insert_entry-new}
-use Rattle.unlang_tree.specs.declared.method_set.MethodSet.{MethodSet}
+use Rattle.mod_base.specs.declared.method_set.MethodSet.{MethodSet}
 use Rattle.unlang_tree.specs.declared.fault.AddFault.TheVariants as fault
 use Rattle.unlang_tree.specs.Instances.{Instance, instance_of, is_named, number_of, number_for}
 

@@ -12,7 +12,7 @@ use Rattle.rad_text.specs.Read.{◌>>=◌}
 use Rattle.unlang_tree.specs.declared.fault.TreeFault.{TreeFault}
 use Rattle.unlang_tree.specs.declared.fault.TreeFault.TheVariants as fault
 use Rattle.unlang_tree.specs.declared.statement.Call.{Call}
-use Rattle.unlang_tree.specs.Methods.{has_method}
+use Rattle.mod_base.specs.Methods.{has_method}
 use Rattle.unlang_tree.specs.Instances.{Instance, number_of, methods_at}
 use Rattle.unlang_tree.specs.Words.{word_of}
 
@@ -44,7 +44,7 @@ is_policy root section name = has_policy root (name ++ codes "." ++ word_of sect
 abbrev pub can_be_called : List Instance → Section → ℕ → Bool
 can_be_called instances section number = elim (methods_at instances number) [
   | None ↦ false
-  | Some methods ↦ has_method methods section
+  | Some methods ↦ has_method methods.methods section
 ]
 
 -- The call of a name. Policies aren't built yet.

@@ -4,7 +4,7 @@ use Rattle.std.specs.Prelude.{ℕ, nat_lt, Bool, true, false, List, length, posi
 use Rattle.std.specs.Str.{bytes_eq}
 use Rattle.std.specs.declared.vec.Vec.{Vec}
 use Rattle.std.specs.declared.alloc.Global.{Global}
-use Rattle.unlang_tree.specs.declared.method_set.MethodSet.{MethodSet}
+use Rattle.mod_base.specs.declared.method_set.MethodSet.{MethodSet}
 use Rattle.unlang_tree.specs.declared.fault.AddFault.{AddFault}
 use Rattle.unlang_tree.specs.declared.fault.AddFault.TheVariants as fault
 

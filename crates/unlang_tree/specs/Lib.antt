@@ -1,4 +1,3 @@
-pub mod Methods
 pub mod Instances
 pub mod Readings
 pub mod Words

@@ -5,8 +5,8 @@ ghost use Rattle.rad_text.specs.Answers.{IsAnswer};
 ghost use Rattle.unlang_tree.specs.Instances.{number_of, methods_at, number_for, says};
 
 use crate::fault::AddFault;
-use crate::method_set::MethodSet;
 use indexmap::IndexMap;
+use mod_base::MethodSet;
 use std::alloc::Global;
 use std::marker::Model;
 

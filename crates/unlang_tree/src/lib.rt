@@ -10,7 +10,6 @@ mod calls;
 mod fault;
 mod instances;
 mod laws;
-mod method_set;
 mod policies;
 mod refusal;
 mod servers;
@@ -27,7 +26,7 @@ pub use instances::Instances;
 pub use laws::{
     a_written_site_is_read, the_first_unknown_word_is_the_fault, written_calls_are_read,
 };
-pub use method_set::MethodSet;
+pub use mod_base::MethodSet;
 pub use policies::{Policies, SectionTree, Sections, ServerTree, Subsection, Subsections};
 pub use statement::{Call, Override, Overrides, Statement, StatementKind, Statements};
 pub use tree::Tree;

@@ -1,7 +1,7 @@
 //! The texts of a moment's parts.
 
 ghost use Rattle.std.specs.Prelude.{◌≡◌, ◌++◌, OnOk};
-ghost use Rattle.rad_value.specs.Scope.{IsInTime};
+ghost use Rattle.rad_outside.specs.Moments.{IsInTime};
 ghost use Rattle.rad_dates.specs.Padded.{digits_in};
 ghost use Rattle.unlang_xlat.specs.Texts.{date_text};
 

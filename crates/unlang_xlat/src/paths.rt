@@ -1,7 +1,7 @@
 //! The text of an expansion as the path of a file.
 
 ghost use Rattle.std.specs.Prelude.{◌≡◌, ℕ, ◌++◌, List, map, IfOk, OnOk};
-ghost use Rattle.rad_value.specs.Scope.{IsInTime};
+ghost use Rattle.rad_outside.specs.Moments.{IsInTime};
 ghost use Rattle.unlang_xlat.specs.Texts.{cut};
 ghost use Rattle.unlang_xlat.specs.Paths.{is_safe, safe_octet, first_octet, safe_text, is_braced, path_part, path_expanded};
 

@@ -1,7 +1,7 @@
 //! The text of an expansion in a scope.
 
 ghost use Rattle.std.specs.Prelude.{◌≡◌, ℕ, ◌++◌, List, IfOk, OnOk};
-ghost use Rattle.rad_value.specs.Scope.{IsInTime};
+ghost use Rattle.rad_outside.specs.Moments.{IsInTime};
 ghost use Rattle.unlang_xlat.specs.Texts.{cut, part_text, expanded};
 
 use crate::dates::put_date;

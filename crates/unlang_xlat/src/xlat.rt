@@ -2,7 +2,7 @@
 
 ghost use Rattle.std.specs.Prelude.{◌≡◌, IfOk};
 ghost use Rattle.rad_text.specs.Answers.{IsAnswer};
-ghost use Rattle.rad_value.specs.Scope.{IsInTime};
+ghost use Rattle.rad_outside.specs.Moments.{IsInTime};
 ghost use Rattle.unlang_xlat.specs.Faults.{parsed, says};
 ghost use Rattle.unlang_xlat.specs.Texts.{expanded};
 ghost use Rattle.unlang_xlat.specs.Paths.{path_expanded};

@@ -1,12 +1,9 @@
 //! A moment's date, as two texts and its weekday.
 
 use rad_dates::{date_of, put_date_time, stamp};
-use rad_outside::NoMemory;
+use rad_outside::{LAST_MOMENT, NoMemory};
 use shared_cases::{Case, Subject, decimal, push_number};
 use std::alloc::Global;
-
-/// The last moment that has a date, in seconds since 1970.
-const LAST_DATE: u64 = 250_000_000_000;
 
 /// A moment in seconds gives its stamp, its date and time and the number of its weekday, with blanks between them.
 #[derive(Drop)]
@@ -14,7 +11,7 @@ pub struct Dates;
 
 impl Subject for Dates {
     fn answer(&mut self, alloc: Global, case: &Case) -> Result<Vec<u8>, NoMemory> {
-        let moment = decimal(case.cell(0)).min(LAST_DATE);
+        let moment = decimal(case.cell(0)).min(LAST_MOMENT);
         let date = date_of(moment);
         let mut answer = stamp(alloc, moment)?.into_vec();
         answer.push(b' ')?;

@@ -1,5 +1,5 @@
 use Rattle.std.proofs.Common.{subst, sym}
-use Rattle.rad_value.specs.Scope.{IsInTime}
+use Rattle.rad_outside.specs.Moments.{IsInTime}
 use Rattle.unlang_code.proofs.Running.{on_err, call_keeps_time, call_stops}
 use Rattle.unlang_code.proofs.run.call.Goals as goal
 

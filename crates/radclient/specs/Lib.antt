@@ -1,0 +1,10 @@
+pub mod Judging
+pub mod Lines
+pub mod Making
+pub mod Answers
+pub mod Client
+pub mod Seen
+pub mod Groups
+pub mod Words
+pub mod Plans
+pub mod Program

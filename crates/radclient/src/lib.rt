@@ -1,0 +1,25 @@
+//! The client: it reads groups of pairs, sends a request for each, and prints the replies.
+//! The one model is `client_run`, a function of what was asked, the groups and what the wire and the luck still have to
+//! answer, which gives the sends, the lines and how the run ends; the top call does that run.
+//! Only the thin program stands above it, which makes the real devices and hands them in.
+#![tactic(auto)]
+
+mod asked;
+mod asking;
+mod ending;
+mod fault;
+mod groups;
+mod laws;
+mod lines;
+mod making;
+mod printing;
+mod running;
+mod sending;
+mod serving;
+mod status;
+mod stop;
+mod top;
+mod words;
+
+pub use laws::{replies_are_taken_as_they_are_accepted, resends_have_the_same_octets};
+pub use top::radclient;
