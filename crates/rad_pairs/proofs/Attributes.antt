@@ -19,7 +19,8 @@ use Rattle.rad_pairs.specs.ValueText.{numbered_text, attr_text}
 use Rattle.rad_pairs.specs.AttrNames.{numbered, kind_or_octets, named}
 use Rattle.rad_dict.specs.EveryDictionary.{IsDictionary}
 use Rattle.rad_pairs.specs.ReadingBack.{IsSpace, unnamed_kind, kind_of}
-use Rattle.rad_dict.proofs.Lookups.{find_fits, find_finds, same_itself, same_begin, attr_id, same_attr_is}
+use Rattle.rad_index.proofs.Finds.{find_fits, find_finds}
+use Rattle.rad_dict.proofs.Lookups.{same_itself, same_begin, attr_id, same_attr_is}
 use Rattle.rad_text.proofs.Decimals.{number_read, number_alone, number_again}
 use Rattle.rad_pairs.proofs.Names.{IsName, attr_name_is, decimal_octets, joined}
 

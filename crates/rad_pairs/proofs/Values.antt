@@ -23,7 +23,8 @@ use Rattle.rad_pairs.specs.ValueReading.{number_in, byte_of, short_of, value_of}
 use Rattle.rad_dict.specs.EveryDictionary.{IsDictionary}
 use Rattle.rad_value.specs.Kinds.{kind_of_value}
 use Rattle.rad_pairs.specs.ReadingBack.{InRange}
-use Rattle.rad_dict.proofs.Lookups.{find_fits, find_finds, same_itself, same_lower, same_attr_is}
+use Rattle.rad_index.proofs.Finds.{find_fits, find_finds}
+use Rattle.rad_dict.proofs.Lookups.{same_itself, same_lower, same_attr_is}
 use Rattle.rad_text.proofs.Decimals.{number_again}
 use Rattle.rad_text.proofs.AddressLaws.{address_again}
 use Rattle.rad_pairs.proofs.Names.{IsName, value_name_is, decimal_name}

@@ -11,7 +11,7 @@ use Rattle.rad_value.specs.Pairs.{first_text}
 use Rattle.rad_value.specs.PairLists.{PairLists}
 use Rattle.rad_dict.specs.Definitions.{Definitions}
 use Rattle.rad_wire.specs.Pairs.{requested}
-use Rattle.rad_dict.proofs.Lookups.{find_fits}
+use Rattle.rad_index.proofs.Finds.{find_fits}
 use Rattle.mod_files.specs.declared.entry.Entry.{Entry}
 use Rattle.mod_files.specs.Entries.{users_of}
 use Rattle.rad_site.specs.declared.judgement.Child.{Child}
