@@ -64,6 +64,6 @@ fault_text (fault.Conf wrong) = conf_fault_text wrong
 fault_text (fault.Dict wrong) = dict_fault_text wrong
 fault_text (fault.Users file wrong) = users_fault_text file wrong
 fault_text (fault.Tree wrong) = tree_fault_text wrong
-fault_text (fault.BadSetting place name) = tree_fault_text wrong
+fault_text (fault.BadSetting place name) = placed_text place (codes "BadSetting " ++ name)
 fault_text fault.ReadFault = read_fault_text
 fault_text fault.NoMemory = memory_text

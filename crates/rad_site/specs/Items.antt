@@ -27,6 +27,18 @@ is_bare Double = false
 abbrev pub is_literal : Word → Bool
 is_literal word = is_bare word.quote && not (has_expansion word.text)
 
+-- A pair by its name, its operator and its value.
+abbrev pub pair_of : Node → Option (List ℕ × List ℕ × List ℕ)
+pair_of node = elim (out-Item node.item) [
+  | level.Pair left operator right ↦ Some (left.text, operator, right.text)
+  | level.Name word ↦ None
+  | level.Block kind name body ↦ None
+]
+
+-- What a setting is set to by `=` or `:=`, where its value has the form.
+abbrev pub set_by : {A : Type 0} → List ℕ → Option A → Option A
+set_by operator value = if is_assignment operator then value else None
+
 -- The name and the value of an item `name = value` or `name := value`.
 abbrev pub setting_of : Node → Option (List ℕ × List ℕ)
 setting_of node = elim (out-Item node.item) [

@@ -1,5 +1,5 @@
 -- How the nodes of a block are read: in order, up to the first fault. This project's own.
-use Rattle.std.specs.Prelude.{◌≡◌, List, [], ◌∷◌, Option, Some, None, Result, Ok, Err}
+use Rattle.std.specs.Prelude.{◌≡◌, ℕ, List, [], ◌∷◌, Option, Some, None, Result, Ok, Err}
 use Rattle.rad_outside.specs.declared.files.Place.{Place}
 use Rattle.rad_conf.specs.declared.tree.Node.{Node}
 use Rattle.rad_site.specs.declared.fault.BuildFault.{BuildFault}
@@ -30,6 +30,15 @@ Gives (Err e) read = Fails e read
 -- What isn't built is refused at its place.
 abbrev pub refused : {A : Type 0} → Place → Result A BuildFault
 refused place = Err (fault.Tree (tree.NotBuilt place))
+
+-- A setting out of its form, or a thing that must not stand there, is refused at its place by its word.
+abbrev pub bad_setting : {A : Type 0} → Place → List ℕ → Result A BuildFault
+bad_setting place name = Err (fault.BadSetting place name)
+
+-- A setting of its form, else it is refused so.
+abbrev pub formed : {A : Type 0} → Place → List ℕ → Option A → Result A BuildFault
+formed place name None = bad_setting place name
+formed place name (Some x) = Ok x
 
 -- What has to be there is refused at this place where it is missing.
 abbrev pub needed : {A : Type 0} → Place → Option A → Result A BuildFault

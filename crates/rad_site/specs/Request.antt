@@ -1,10 +1,11 @@
 -- What a site answers to a request. Codes after RFC 2865 section 4; the flow is this project's own, after FreeRADIUS.
-use Rattle.std.specs.Prelude.{ℕ, ◌≡◌, ◌==◌, List, [], Bool, Option, Some, None, if◌then◌else◌}
+use Rattle.std.specs.Prelude.{ℕ, ◌≡◌, List, [], Bool, Option, Some, None, if◌then◌else◌}
 use Rattle.std.specs.Str.{bytes_eq}
 use Rattle.std.specs.Arc.{arc_value}
 use Rattle.rad_value.specs.PairLists.{PairLists}
 use Rattle.rad_packet.specs.declared.client.Client.{Client}
 use Rattle.rad_packet.specs.Packet.{packet_of}
+use Rattle.rad_clients.specs.Networks as networks
 use Rattle.rad_wire.specs.Pairs.{pairs_of, requested}
 use Rattle.rad_wire.specs.Reply.{reply_octets}
 use Rattle.rad_policy.specs.declared.arrival.Arrived.{Arrived}
@@ -18,9 +19,9 @@ use Rattle.rad_site.specs.declared.verdict.Verdict.TheVariants as verdict
 use Rattle.rad_site.specs.Access.{decided, kept}
 use Rattle.rad_site.specs.Site.{Site}
 
--- The client of a source address.
+-- The client of a source address: of those whose network has it, the one with the longest prefix.
 abbrev pub client_of : Site → ℕ → Option Client
-client_of site addr = if site.client.addr == addr then Some site.client else None
+client_of site addr = networks.client_of addr site.clients
 
 -- Whether the site has a server of this name.
 abbrev pub has_server_of : Site → List ℕ → Bool

@@ -27,6 +27,9 @@ pub enum BuildFault {
     Conf(ConfFault),
     #[error("Dict")]
     Dict(DictFault),
+    /// A setting out of its form, or a thing that must not stand there: its place and its word.
+    #[error("BadSetting")]
+    BadSetting(Place, Octets),
     /// A users file, by its name, and what is wrong in it.
     #[error("Users")]
     Users(Octets, UsersFault),

@@ -2,17 +2,16 @@ ghost use Rattle.std.specs.Prelude.{◌≡◌};
 
 use crate::statement::{Statements, Subsections};
 use mod_files::Users;
+use rad_clients::Clients;
 use rad_dict::Dict;
 use rad_outside::{Octets, Peer};
-use rad_packet::Client;
 use std::marker::Model;
 
-/// A generation of a site: a dictionary, one client with one address, the users of a file, and one server with one
-/// auth listener.
+/// A generation of a site: a dictionary, the clients, the users of a file, and one server with one auth listener.
 #[derive(Drop)]
 pub struct Generation {
     pub(crate) dict: Dict,
-    pub(crate) client: Client,
+    pub(crate) clients: Clients,
     pub(crate) users: Users,
     pub(crate) server: Octets,
     pub(crate) at: Peer,
@@ -27,7 +26,7 @@ impl Model for Generation {
 
     ghost view = { λ g. record {
       dict = g.dict;
-      client = g.client;
+      clients = g.clients;
       users = g.users;
       server = g.server;
       at = g.at;

@@ -35,11 +35,7 @@ impl Policy for Generation {
     }
 
     fn client(&self, addr: u32) -> Option<&Client> {
-        if self.client.addr == addr {
-            Some(&self.client)
-        } else {
-            None
-        }
+        self.clients.of_addr(addr)
     }
 
     fn has_server(&self, name: &[u8]) -> bool {

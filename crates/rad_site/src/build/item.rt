@@ -2,12 +2,12 @@
 
 ghost use Rattle.std.specs.Prelude.{◌≡◌};
 ghost use Rattle.std.specs.Option.{option_map};
-ghost use Rattle.rad_site.specs.Items.{has_expansion, is_literal, is_assignment, setting_of, is_block, plain_block, named_block};
+ghost use Rattle.rad_site.specs.Items.{has_expansion, is_literal, is_assignment, pair_of, setting_of, is_block, plain_block, named_block};
 
 use rad_conf::{Item, Node, Quote, Word};
 
 /// Whether an operator is `=` or `:=`.
-fn is_assignment(operator: &[u8]) -> bool
+pub(crate) fn is_assignment(operator: &[u8]) -> bool
     ensures { result ≡ is_assignment operator.now }
 {
     operator == b"=".as_slice() || operator == b":=".as_slice()
@@ -35,6 +35,21 @@ pub(crate) fn is_literal(word: &Word) -> bool
     match word.quote {
         Quote::Bare => !has_expansion(word.text.as_slice()),
         Quote::Single | Quote::Double => false,
+    }
+}
+
+/// A pair by its name, its operator and its value.
+pub(crate) fn pair_of(node: &Node) -> Option<(&[u8], &[u8], &[u8])>
+    ensures { option_map (λ pair. (pair.0.now, pair.1.now, pair.2.now)) result ≡ pair_of node.now }
+{
+    match &node.item {
+        Item::Pair(left, operator, right) => Some((
+            left.text.as_slice(),
+            operator.as_slice(),
+            right.text.as_slice(),
+        )),
+        Item::Name(_) => None,
+        Item::Block(_, _, _) => None,
     }
 }
 

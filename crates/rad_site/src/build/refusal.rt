@@ -1,7 +1,7 @@
 //! Faults at their places.
 
 ghost use Rattle.std.specs.Prelude.{◌≡◌, IfOk};
-ghost use Rattle.rad_site.specs.Nodes.{Gives, refused};
+ghost use Rattle.rad_site.specs.Nodes.{Gives, refused, bad_setting};
 
 use crate::fault::{BuildFault, TreeFault};
 use rad_outside::{NoMemory, Octets, Place};
@@ -23,4 +23,13 @@ pub(crate) fn refuse<T>(alloc: Global, place: &Place) -> Result<T, BuildFault>
 {
     let place = copy_of(alloc, place)?;
     Err(BuildFault::Tree(TreeFault::NotBuilt(place)))
+}
+
+/// Refuses a setting out of its form, or a thing that must not stand there, by its word.
+pub(crate) fn refuse_setting<T>(alloc: Global, place: &Place, name: &[u8]) -> Result<T, BuildFault>
+    ensures { Gives result (bad_setting place.now name.now) }
+{
+    let place = copy_of(alloc, place)?;
+    let name = Octets::of(alloc, name)?;
+    Err(BuildFault::BadSetting(place, name))
 }

@@ -1,39 +1,42 @@
 //! The site of a whole configuration.
 
-ghost use Rattle.std.specs.Prelude.{◌≡◌};
+ghost use Rattle.std.specs.Prelude.{◌≡◌, []};
 ghost use Rattle.std.specs.List.{find, filter};
 ghost use Rattle.std.specs.Option.{option_map, option_copied};
 ghost use Rattle.rad_outside.specs.Telling.{Counts};
-ghost use Rattle.rad_site.specs.Nodes.{Gives, only, refused};
+ghost use Rattle.rad_site.specs.Nodes.{Gives, bad_setting, after_each};
 ghost use Rattle.rad_site.specs.Sources.{FindsIn};
 ghost use Rattle.rad_site.specs.Items.{is_block};
 ghost use Rattle.rad_site.specs.ModulesBlock.{alone};
 ghost use Rattle.rad_site.specs.ServerBlock.{server_at};
-ghost use Rattle.rad_site.specs.Built.{whole_conf, is_server, is_other, no_others, IsFirst, client_in, modules_in, site_with, site_behind, site_of};
+ghost use Rattle.rad_site.specs.Built.{whole_conf, is_unbuilt, none_unbuilt, IsFirst, with_client, with_item, clients_in, modules_in, server_in, site_with, site_behind, site_of};
 
 use crate::build::client::client_at;
 use crate::build::item::is_block;
 use crate::build::modules::{Modules, modules_at};
-use crate::build::refusal::refuse;
+use crate::build::refusal::{refuse, refuse_setting};
 use crate::build::server::{Server, server_at};
 use crate::fault::BuildFault;
 use crate::generation::Generation;
 use mod_files::Users;
+use rad_clients::Clients;
 use rad_conf::Node;
 use rad_dict::Dict;
 use rad_outside::{Files, Octets, Place};
-use rad_packet::Client;
 use std::alloc::Global;
 
 /// The name of the configuration's file in its folder.
 pub(crate) const CONF: &str = "radiusd.conf";
 
-/// Refuses a configuration that lacks something as a whole.
-fn refuse_whole<T>(alloc: Global) -> Result<T, BuildFault>
-    ensures { Gives result (refused whole_conf) }
+/// The most clients of a site.
+const MOST_CLIENTS: usize = 4096;
+
+/// Refuses a configuration that lacks a setting as a whole.
+fn refuse_whole<T>(alloc: Global, name: &[u8]) -> Result<T, BuildFault>
+    ensures { Gives result (bad_setting whole_conf name.now) }
 {
     let file = Octets::of(alloc, CONF.as_bytes())?;
-    refuse(alloc, &Place { file, line: 0 })
+    refuse_setting(alloc, &Place { file, line: 0 }, name)
 }
 
 /// The first block of a kind, and the nodes behind it.
@@ -50,25 +53,25 @@ fn first_of<'a>(kind: &[u8], nodes: &'a [Node]) -> Option<(&'a Node, &'a [Node])
     None
 }
 
-/// Whether an item is neither a client nor modules nor a server.
-fn is_other(node: &Node) -> bool
-    ensures { result ≡ is_other node.now }
+/// Whether an item is a block that isn't built.
+fn is_unbuilt(node: &Node) -> bool
+    ensures { result ≡ is_unbuilt node.now }
 {
-    !(is_block(b"client", node) || is_block(b"modules", node) || is_block(b"server", node))
+    is_block(b"realm", node) || is_block(b"policy", node) || is_block(b"control", node)
 }
 
-/// The first item at the top that is none of these.
-fn other_in(nodes: &[Node]) -> Option<&Node>
-    ensures { option_copied result ≡ find is_other nodes.now }
+/// The first block at the top that isn't built.
+fn unbuilt_in(nodes: &[Node]) -> Option<&Node>
+    ensures { option_copied result ≡ find is_unbuilt nodes.now }
 {
-    nodes.iter().find(|node| is_other(node))
+    nodes.iter().find(|node| is_unbuilt(node))
 }
 
-/// Refuses the first item at the top that is neither a client nor modules nor a server.
-fn no_others(alloc: Global, nodes: &[Node]) -> Result<(), BuildFault>
-    ensures { Gives result (no_others nodes.now) }
+/// Refuses the first block at the top that isn't built.
+fn none_unbuilt(alloc: Global, nodes: &[Node]) -> Result<(), BuildFault>
+    ensures { Gives result (none_unbuilt nodes.now) }
 {
-    match other_in(nodes) {
+    match unbuilt_in(nodes) {
         None => Ok(()),
         Some(node) => refuse(alloc, &node.place),
     }
@@ -84,17 +87,48 @@ fn only_one<T: Drop>(alloc: Global, read: T, kind: &[u8], after: &[Node]) -> Res
     }
 }
 
-/// The one client, at whose top no other items stand.
-#[tactic(auto, unfolding(crate::specs::Nodes::one_of, crate::specs::Built::client_in))]
-fn client_in(alloc: Global, nodes: &[Node]) -> Result<Client, BuildFault>
-    ensures { Gives result (client_in nodes.now) }
+/// The clients with one more.
+#[tactic(auto, unfolding(crate::specs::Built::with_client))]
+fn with_client(alloc: Global, known: Clients, node: &Node) -> Result<Clients, BuildFault>
+    ensures { Gives result (with_client known node.now) }
 {
-    no_others(alloc, nodes)?;
-    let Some((node, after)) = first_of(b"client", nodes) else {
-        return refuse_whole(alloc);
-    };
     let client = client_at(alloc, node)?;
-    only_one(alloc, client, b"client", after)
+    let standing = known.of_network(client.bits, client.addr);
+    if standing.is_some() || known.len() >= MOST_CLIENTS {
+        return refuse_setting(alloc, &node.place, client.name.as_slice());
+    }
+    Ok(known.with(alloc, client)?)
+}
+
+/// The clients after one more item of the top.
+fn with_item(alloc: Global, known: Clients, node: &Node) -> Result<Clients, BuildFault>
+    ensures { Gives result (with_item known node.now) }
+{
+    if is_block(b"client", node) {
+        with_client(alloc, known, node)
+    } else {
+        Ok(known)
+    }
+}
+
+/// The clients of the items of the top.
+fn each_client(alloc: Global, nodes: &[Node]) -> Result<Clients, BuildFault>
+    ensures { Gives result (after_each with_item [] nodes.now) }
+{
+    let mut known = Clients::new(alloc);
+    for node in nodes {
+        known = with_item(alloc, known, node)?;
+    }
+    Ok(known)
+}
+
+/// The clients of a configuration at whose top no block stands that isn't built.
+#[tactic(auto, unfolding(crate::specs::Built::clients_in))]
+fn clients_in(alloc: Global, nodes: &[Node]) -> Result<Clients, BuildFault>
+    ensures { Gives result (clients_in nodes.now) }
+{
+    none_unbuilt(alloc, nodes)?;
+    each_client(alloc, nodes)
 }
 
 /// The modules, none where they are missing.
@@ -122,10 +156,10 @@ fn modules_in<F: Files>(
 /// The one server.
 #[tactic(auto, unfolding(crate::specs::Nodes::one_of))]
 fn server_in(alloc: Global, modules: &Modules, nodes: &[Node]) -> Result<Server, BuildFault>
-    ensures { Gives result (only whole_conf (server_at modules.now) (filter is_server nodes.now)) }
+    ensures { Gives result (server_in modules.now nodes.now) }
 {
     let Some((node, after)) = first_of(b"server", nodes) else {
-        return refuse_whole(alloc);
+        return refuse_whole(alloc, b"listen");
     };
     let server = server_at(alloc, modules, node)?;
     only_one(alloc, server, b"server", after)
@@ -135,11 +169,11 @@ fn server_in(alloc: Global, modules: &Modules, nodes: &[Node]) -> Result<Server,
 fn site_with(
     alloc: Global,
     dict: Dict,
-    client: Client,
+    clients: Clients,
     modules: Modules,
     server: Server,
 ) -> Generation
-    ensures { result ≡ site_with dict client modules server }
+    ensures { result ≡ site_with dict clients modules server }
 {
     let Modules { users, pap: _ } = modules;
     let Server {
@@ -150,7 +184,7 @@ fn site_with(
     } = server;
     Generation {
         dict,
-        client,
+        clients,
         users: users.unwrap_or(Users::new(alloc)),
         server: name,
         at,
@@ -164,14 +198,14 @@ fn site_with(
 fn site_behind(
     alloc: Global,
     dict: Dict,
-    client: Client,
+    clients: Clients,
     modules: Modules,
     nodes: &[Node],
 ) -> Result<Generation, BuildFault>
-    ensures { Gives result (site_behind dict client modules nodes.now) }
+    ensures { Gives result (site_behind dict clients modules nodes.now) }
 {
     let server = server_in(alloc, &modules, nodes)?;
-    Ok(site_with(alloc, dict, client, modules, server))
+    Ok(site_with(alloc, dict, clients, modules, server))
 }
 
 /// The generation of a whole configuration with this dictionary.
@@ -186,7 +220,7 @@ pub(crate) fn site_of<F: Files>(
         (F.told files.old) (F.told files.new) }
     ensures faults { Counts (F.faults files.old) (F.faults files.new) (result ≡ Err BuildFault.ReadFault) }
 {
-    let client = client_in(alloc, nodes)?;
+    let clients = clients_in(alloc, nodes)?;
     let modules = modules_in(alloc, files, dir, &dict, nodes)?;
-    site_behind(alloc, dict, client, modules, nodes)
+    site_behind(alloc, dict, clients, modules, nodes)
 }

@@ -1,6 +1,6 @@
 //! The printed texts of faults.
 
-ghost use Rattle.std.specs.Prelude.{◌≡◌, IfOk};
+ghost use Rattle.std.specs.Prelude.{◌≡◌, ◌++◌, codes, IfOk};
 ghost use Rattle.rad_site.specs.FaultText.{placed_text, conf_fault_text, tree_fault_text, dict_fault_text, users_fault_text, fault_text, read_fault_text, memory_text};
 
 use crate::fault::{BuildFault, TreeFault};
@@ -67,6 +67,15 @@ fn tree_fault_text(alloc: Global, fault: &TreeFault) -> Result<Octets, NoMemory>
     }
 }
 
+/// A setting out of its form, by its word.
+fn setting_fault_text(alloc: Global, place: &Place, name: &[u8]) -> Result<Octets, NoMemory>
+    ensures { IfOk result (λ text. text ≡ placed_text place.now (codes "BadSetting " ++ name.now)) }
+{
+    let mut reason = Vec::from_slice(alloc, b"BadSetting ")?;
+    reason.extend_from_slice(name)?;
+    placed_text(alloc, place, reason.as_slice())
+}
+
 fn dict_fault_text(alloc: Global, fault: &DictFault) -> Result<Octets, NoMemory>
     ensures { IfOk result (λ text. text ≡ dict_fault_text fault.now) }
 {
@@ -99,6 +108,7 @@ pub fn fault_text(alloc: Global, fault: &BuildFault) -> Result<Octets, NoMemory>
         BuildFault::Conf(wrong) => conf_fault_text(alloc, wrong),
         BuildFault::Dict(wrong) => dict_fault_text(alloc, wrong),
         BuildFault::Users(file, wrong) => users_fault_text(alloc, file.as_slice(), wrong),
+        BuildFault::BadSetting(place, name) => setting_fault_text(alloc, place, name.as_slice()),
         BuildFault::Tree(wrong) => tree_fault_text(alloc, wrong),
         BuildFault::ReadFault => read_fault_text(alloc),
         BuildFault::NoMemory => memory_text(alloc),
