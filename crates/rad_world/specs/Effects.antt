@@ -1,7 +1,6 @@
 -- The effects of a policy: what it had its devices do. This project's own; a change of the sessions follows an accounting
 -- message (RFC 2866).
-use Rattle.std.specs.Prelude.{ℕ, ◌+◌, ◌==◌, Bool, true, false, List, [], ◌∷◌, length}
-use Rattle.rad_outside.specs.declared.shelf.Append.{Append}
+use Rattle.std.specs.Prelude.{ℕ, ◌+◌, Bool, true, false, List, [], ◌∷◌}
 use Rattle.rad_sessions.specs.declared.session.Session.{Session}
 use Rattle.rad_sessions.specs.declared.change.Change.{Change}
 use Rattle.rad_sessions.specs.Listed.{after}
@@ -50,7 +49,3 @@ abbrev pub failures_in : List Bool → ℕ
 failures_in [] = 0
 failures_in (true ∷ answers) = failures_in answers
 failures_in (false ∷ answers) = failures_in answers + 1
-
--- The effect that an append to a shelf is: it was done where the piece was appended whole.
-abbrev pub write_of : Append → Effect
-write_of append = Write append.path append.piece (append.written == length append.piece)

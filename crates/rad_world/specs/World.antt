@@ -1,8 +1,6 @@
 -- What a world is at a moment, and what its calls do to it. This project's own.
 use Rattle.std.specs.Prelude.{ℕ, ◌≡◌, ◌+◌, ◌-◌, ◌^◌, ◌≤◌, min, Bool, true, false, List, [], ◌∷◌, ◌++◌, Option, Result, Ok, Err}
-use Rattle.std.specs.Prelude.{map, option_map}
 use Rattle.rad_outside.specs.Telling.{Tells}
-use Rattle.rad_outside.specs.declared.shelf.Append.{Append}
 use Rattle.rad_sessions.specs.declared.session.Session.{Session}
 use Rattle.rad_sessions.specs.declared.change.Change.{Change}
 use Rattle.rad_sessions.specs.Listed.{is_too_many, limit}
@@ -10,7 +8,7 @@ use Rattle.rad_world.specs.declared.fault.AppendFault.{AppendFault}
 use Rattle.rad_world.specs.declared.fault.AppendFault.TheVariants as append_fault
 use Rattle.rad_world.specs.declared.fault.ChangeFault.{ChangeFault}
 use Rattle.rad_world.specs.declared.fault.ChangeFault.TheVariants as change_fault
-use Rattle.rad_world.specs.Effects.{Effect, Write, Line, write_of, answers_of, after_effects, writes_of, lines_of, failures_in}
+use Rattle.rad_world.specs.Effects.{Effect, Write, Line, answers_of, after_effects, writes_of, lines_of, failures_in}
 
 -- The answers that the devices gave so far, the effects made so far, where the devices tell them, the sessions now, whether
 -- they take changes, how often the files and the log have failed, and the name of the borrow of a device that was lent to
@@ -55,16 +53,3 @@ Changes before now change (Ok done) = (is_too_many before.sessions change ≡ fa
 Changes before now change (Err change_fault.Failed) = (is_too_many before.sessions change ≡ false) × Gains before now (Line change false ∷ [])
 Changes before now change (Err (change_fault.Full count)) = (is_too_many before.sessions change ≡ true) × (count ≡ limit) × (now ≡ before)
 Changes before now change (Err change_fault.NoMemory) = now ≡ before
-
--- A world over a shelf as it begins, from what the shelf tells and how often it has failed, with sessions that stand as
--- they are, and by the name of the shelf's borrow: no device has given an answer.
-abbrev pub opening_of : Option (List Append) → ℕ → List Session → ℕ → WorldState
-opening_of told faults sessions name = record {
-  answers = [];
-  effects = option_map (map write_of) told;
-  sessions = sessions;
-  takes_changes = false;
-  write_faults = faults;
-  line_faults = 0;
-  lent = name;
-}

@@ -8,11 +8,9 @@
 mod answers;
 mod fault;
 mod laws;
-mod shelf_world;
 mod world;
 
 pub use answers::Answers;
 pub use fault::{AppendFault, ChangeFault};
 pub use laws::worlds_go_on;
-pub use shelf_world::ShelfWorld;
 pub use world::World;
