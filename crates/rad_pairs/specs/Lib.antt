@@ -5,4 +5,5 @@ pub mod Operators
 pub mod Words
 pub mod PairParts
 pub mod Items
+pub mod PlainItems
 pub mod ReadingBack

@@ -6,6 +6,15 @@ ghost use Rattle.rad_pairs.specs.Operators.{long_operator, short_operator, opera
 
 use crate::PairOp;
 
+/// Which operators a text of pairs takes.
+#[derive(Clone, Copy, Debug, PartialEq, Eq)]
+pub enum Taking {
+    /// All of a pair.
+    Every,
+    /// `=` alone.
+    Plain,
+}
+
 /// One of the fourteen operators of site files.
 #[derive(Clone, Copy, Debug, PartialEq, Eq)]
 pub enum Operator {

@@ -6,11 +6,12 @@ ghost use Rattle.rad_text.specs.Find.{Finds};
 ghost use Rattle.rad_text.specs.Read.{Gives};
 ghost use Rattle.rad_text.specs.Answers.{IsAnswer};
 ghost use Rattle.rad_pairs.specs.PairParts.{is_missing, value_behind, separated, value_at, operator_of};
-ghost use Rattle.rad_pairs.specs.Items.{value_error, pair_at, part_at, error_left, fault_at, items_of, says};
+ghost use Rattle.rad_pairs.specs.Items.{value_error, pair_at, part_at, octets_left, error_left, fault_at, items_of, says};
+ghost use Rattle.rad_pairs.specs.PlainItems.{is_plain, other_operator, plain_part_at, part_taking, items_taking, plain_items_of};
 
 use crate::attr_reading::{AttrKind, attr_by_name};
 use crate::fault::{NoValue, Wrong};
-use crate::operators::{Operator, operator_at};
+use crate::operators::{Operator, Taking, operator_at};
 use crate::value_reading::value_of;
 use crate::words::{after_separator, name_len, word_at};
 use crate::{Item, ItemList, PairFault, PairOp};
@@ -155,6 +156,66 @@ fn part_at<'a>(
     Ok((Some(item), rest))
 }
 
+/// Whether the operator is `=`.
+fn is_plain(op: PairOp) -> bool
+    ensures { result ≡ is_plain op }
+{
+    matches!(op, PairOp::Eq)
+}
+
+/// What is wrong with the pair at the front where `=` alone is taken: another operator behind an attribute's name, at
+/// the name's end.
+#[tactic(auto, unfolding(crate::specs::PlainItems::other_operator))]
+fn other_operator(text: &[u8], dict: &Dict) -> Option<Wrong>
+    ensures exact { result ≡ other_operator text.now dict.now }
+    ensures inside { IfSome result (λ wrong. octets_left wrong ≤ length text.now) }
+{
+    let (name, rest) = text.split_at(name_len(text));
+    attr_by_name(name, dict)?;
+    let (op, _) = operator_of(after_blanks(rest))?;
+    if is_plain(op) {
+        None
+    } else {
+        Some(Wrong::BadOperator(rest.len()))
+    }
+}
+
+/// A part of a text that takes `=` alone, and what follows it.
+#[tactic(auto, unfolding(crate::specs::PlainItems::plain_part_at))]
+fn plain_part_at<'a>(
+    alloc: Global,
+    text: &'a [u8],
+    dict: &Dict,
+) -> Result<(Option<Item>, &'a [u8]), ReadError<Wrong>>
+    requires { 0 < length text.now }
+    ensures exact { Gives (λ x. (x.0, x.1.now)) result (plain_part_at text.now dict.now) }
+    ensures shorter { IfOk result (λ x. length x.1.now < length text.now) }
+    ensures inside { IfErr result (λ fault. error_left fault ≤ length text.now) }
+{
+    match other_operator(after_blanks(text), dict) {
+        Some(wrong) => Err(ReadError::Wrong(wrong)),
+        None => part_at(alloc, text, dict),
+    }
+}
+
+/// A part of a text that takes these operators, and what follows it.
+fn part_taking<'a>(
+    alloc: Global,
+    taking: Taking,
+    text: &'a [u8],
+    dict: &Dict,
+) -> Result<(Option<Item>, &'a [u8]), ReadError<Wrong>>
+    requires { 0 < length text.now }
+    ensures exact { Gives (λ x. (x.0, x.1.now)) result (part_taking taking dict.now text.now) }
+    ensures shorter { IfOk result (λ x. length x.1.now < length text.now) }
+    ensures inside { IfErr result (λ fault. error_left fault ≤ length text.now) }
+{
+    match taking {
+        Taking::Every => part_at(alloc, text, dict),
+        Taking::Plain => plain_part_at(alloc, text, dict),
+    }
+}
+
 /// Adds an item, where there is one.
 fn add(items: &mut Vec<Item>, item: Option<Item>) -> Result<(), PairFault>
     ensures ok { OnOk result (items.new.items ≡ items.old.items ++ option_to_list item) }
@@ -182,16 +243,19 @@ fn fault_at(text: &[u8], error: ReadError<Wrong>) -> PairFault
     }
 }
 
-/// The pairs of a text, `NAME OPERATOR VALUE`, parted by commas or line ends, as users(5) and radclient(1) write
-/// them, in reading order; or the first fault at its place. For each pair UnknownAttr comes before BadOperator, and
-/// that before BadValue.
-pub fn read_pairs(alloc: Global, text: &[u8], dict: &Dict) -> Result<ItemList, PairFault>
-    ensures { IsAnswer says (items_of text.now dict.now) result }
+/// The pairs of a text that takes these operators, in reading order, or the first fault at its place.
+fn items_taking(
+    alloc: Global,
+    taking: Taking,
+    text: &[u8],
+    dict: &Dict,
+) -> Result<ItemList, PairFault>
+    ensures { IsAnswer says (items_taking taking text.now dict.now) result }
 {
     let mut items = Vec::new(alloc);
     let mut rest = text;
     while !rest.is_empty() {
-        match part_at(alloc, rest, dict) {
+        match part_taking(alloc, taking, rest, dict) {
             Ok((item, after)) => {
                 add(&mut items, item)?;
                 rest = after;
@@ -200,4 +264,23 @@ pub fn read_pairs(alloc: Global, text: &[u8], dict: &Dict) -> Result<ItemList, P
         }
     }
     Ok(ItemList::from_vec(items))
+}
+
+/// The pairs of a text, `NAME OPERATOR VALUE`, parted by commas or line ends, as users(5) and radclient(1) write
+/// them, in reading order; or the first fault at its place. For each pair UnknownAttr comes before BadOperator, and
+/// that before BadValue.
+#[tactic(auto, unfolding(crate::specs::Items::items_of))]
+pub fn read_pairs(alloc: Global, text: &[u8], dict: &Dict) -> Result<ItemList, PairFault>
+    ensures { IsAnswer says (items_of text.now dict.now) result }
+{
+    items_taking(alloc, Taking::Every, text, dict)
+}
+
+/// The same of a text that takes `=` alone, as radclient(1) does: another operator is BadOperator, whatever stands
+/// behind it.
+#[tactic(auto, unfolding(crate::specs::PlainItems::plain_items_of))]
+pub fn read_plain_pairs(alloc: Global, text: &[u8], dict: &Dict) -> Result<ItemList, PairFault>
+    ensures { IsAnswer says (plain_items_of text.now dict.now) result }
+{
+    items_taking(alloc, Taking::Plain, text, dict)
 }

@@ -10,7 +10,7 @@ use Rattle.rad_value.specs.PairLists.{PairLists}
 use Rattle.rad_pairs.specs.declared.items.Item.{Item}
 use Rattle.radclient.specs.declared.fault.LineFault.{LineFault}
 use Rattle.radclient.specs.declared.fault.Reason.{Reason}
-use Rattle.radclient.specs.Groups.{Reading, closed, groups_of, line_read, lines_read, unread, with_item, with_items}
+use Rattle.radclient.specs.Groups.{Reading, closed, groups_of, line_read, lines_read, unread, added, with_items}
 use Rattle.rad_text.specs.Lines.{lines_of}
 
 fails_along : {A B F : Type 0} (error : ReadError F) (read : Result A F) (whole : Result B F) → ((wrong : F) → read ≡ Err wrong → whole ≡ Err wrong) → Fails error read → Fails error whole
@@ -24,19 +24,14 @@ at_item items n item found =
     ∙ ap (λ (m : ℕ). item ∷ drop m items) (sym (add-one n))
 
 module _ (pairs : PairLists) (items : List Item) (n : ℕ) (item : Item) (found : slice_get items n ≡ Some item) where
-  first_item : with_items pairs (drop n items) ≡ (with_item pairs item >>= λ more. with_items more (drop (n + 1) items))
+  first_item : with_items pairs (drop n items) ≡ with_items (added pairs item) (drop (n + 1) items)
   unfolding with_items
   first_item = ap (with_items pairs) (at_item items n item found)
 
-  pub items_more : (whole : Result PairLists Reason) (next : PairLists) → with_item pairs item ≡ Ok next → whole ≡ with_items pairs (drop n items)
-      → whole ≡ with_items next (drop (n + 1) items)
-  items_more whole next is so_far = so_far ∙ first_item ∙ ap (λ (r : Result PairLists Reason). r >>= λ more. with_items more (drop (n + 1) items)) is
+  pub items_more : (whole next : PairLists) → next ≡ added pairs item → whole ≡ with_items pairs (drop n items) → whole ≡ with_items next (drop (n + 1) items)
+  items_more whole next is so_far = so_far ∙ first_item ∙ ap (λ (p : PairLists). with_items p (drop (n + 1) items)) (sym is)
 
-  pub items_wrong : (whole : Result PairLists Reason) (error : ReadError Reason) → Fails error (with_item pairs item) → whole ≡ with_items pairs (drop n items) → Fails error whole
-  items_wrong whole error fails so_far =
-      fails_along error (with_item pairs item) whole (λ wrong is. so_far ∙ first_item ∙ ap (λ (r : Result PairLists Reason). r >>= λ more. with_items more (drop (n + 1) items)) is) fails
-
-pub items_end : (pairs : PairLists) (items : List Item) (n : ℕ) (whole : Result PairLists Reason) → length items ≤ n → whole ≡ with_items pairs (drop n items) → whole ≡ Ok pairs
+pub items_end : (pairs : PairLists) (items : List Item) (n : ℕ) (whole : PairLists) → length items ≤ n → whole ≡ with_items pairs (drop n items) → whole ≡ pairs
 unfolding with_items
 items_end pairs items n whole past so_far = so_far ∙ ap (with_items pairs) (drop_all n items past)
 

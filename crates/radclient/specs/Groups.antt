@@ -12,28 +12,10 @@ use Rattle.rad_dict.specs.Base.{base_definitions}
 use Rattle.rad_pairs.specs.declared.fault.PairFault.{PairFault}
 use Rattle.rad_pairs.specs.declared.fault.PairFault.TheVariants as fault
 use Rattle.rad_pairs.specs.declared.items.Item.{Item}
-use Rattle.rad_pairs.specs.declared.items.PairOp.{PairOp}
-use Rattle.rad_pairs.specs.declared.items.PairOp.TheVariants as op
-use Rattle.rad_pairs.specs.Items.{items_of}
+use Rattle.rad_pairs.specs.PlainItems.{plain_items_of}
 use Rattle.radclient.specs.declared.fault.LineFault.{LineFault}
 use Rattle.radclient.specs.declared.fault.Reason.{Reason}
 use Rattle.radclient.specs.declared.fault.Reason.TheVariants as reason
-
--- Only `=` is taken in pairs.
-abbrev pub is_plain : PairOp → Bool
-is_plain op.Eq = true
-is_plain op.Set = false
-is_plain op.Append = false
-is_plain op.Equal = false
-is_plain op.Differs = false
-is_plain op.Lt = false
-is_plain op.Le = false
-is_plain op.Gt = false
-is_plain op.Ge = false
-is_plain op.Match = false
-is_plain op.NoMatch = false
-is_plain op.Any = false
-is_plain op.None = false
 
 -- The pairs of a group with one more. 2^31 are kept at most: no packet is made of as many, whatever they are.
 abbrev pub added : PairLists → Item → PairLists
@@ -42,14 +24,10 @@ added pairs item =
     then with_list pairs Request (pairs.request ++ record { attr = item.attr; value = item.value } ∷ [])
     else pairs
 
--- The pairs of a group with an item's, or what is wrong with its operator.
-abbrev pub with_item : PairLists → Item → Result PairLists Reason
-with_item pairs item = if is_plain item.op then Ok (added pairs item) else Err reason.BadOperator
-
--- The pairs of a group with those of items, up to the first that is wrong.
-unfoldable pub with_items : PairLists → List Item → Result PairLists Reason
-with_items pairs [] = Ok pairs
-with_items pairs (item ∷ items) = with_item pairs item >>= λ more. with_items more items
+-- The pairs of a group with those of items, in order.
+unfoldable pub with_items : PairLists → List Item → PairLists
+with_items pairs [] = pairs
+with_items pairs (item ∷ items) = with_items (added pairs item) items
 
 -- Why a line's pairs can't be read. A text is never short of memory.
 abbrev pub reason_of : PairFault → Reason
@@ -67,12 +45,12 @@ error_of fault.NoMemory = NoMemory
 
 -- The pairs of a group with what was read of a line.
 abbrev pub with_read : PairLists → Result (List Item) PairFault → Result PairLists Reason
-with_read pairs (Ok items) = with_items pairs items
+with_read pairs (Ok items) = Ok (with_items pairs items)
 with_read pairs (Err wrong) = Err (reason_of wrong)
 
--- The pairs of a group with those of a line.
+-- The pairs of a group with those of a line, where only `=` is taken.
 abbrev pub with_line : PairLists → List ℕ → Result PairLists Reason
-with_line pairs text = with_read pairs (items_of text base_definitions)
+with_line pairs text = with_read pairs (plain_items_of text base_definitions)
 
 -- A line has nothing but blanks.
 abbrev pub is_empty : List ℕ → Bool

@@ -3,6 +3,7 @@ use Rattle.radclient.specs.declared.words.Order.{Order}
 use Rattle.radclient.specs.declared.words.Plan.{Plan}
 use Rattle.radclient.specs.Words.{Line}
 
+-- A plan without where its octets lie.
 abbrev pub seen_plan : Plan → Line
 seen_plan plan = record {
   asked = record {
@@ -18,5 +19,6 @@ seen_plan plan = record {
   file = plan.file.now;
 }
 
+-- An order as the command line that it was made from.
 abbrev pub line_as : Order → Line
 line_as order = record { asked = order.asked; file = order.file }

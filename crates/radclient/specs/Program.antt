@@ -36,10 +36,11 @@ number_of status.NoMemory = 8
 abbrev pub usage_line : List ℕ
 usage_line = codes "usage: radclient [-f FILE] [-x] [-c N] [-r N] [-t N] [-q] SERVER[:PORT] auth|acct SECRET" ++ 10 ∷ []
 
--- The lines of a file that can't be read, and of a wire that failed.
+-- The line of a file that can't be read.
 abbrev pub read_fault_line : List ℕ
 read_fault_line = codes "read fault" ++ 10 ∷ []
 
+-- The line of a wire that failed.
 abbrev pub socket_fault_line : List ℕ
 socket_fault_line = codes "socket fault" ++ 10 ∷ []
 
@@ -59,10 +60,11 @@ abbrev pub unmade_name : Unmade → List ℕ
 unmade_name unmade.PasswordTooLong = codes "PasswordTooLong"
 unmade_name unmade.TooLong = codes "TooLong"
 
--- The line of a file's first fault, and of a packet that can't be made.
+-- The line of a file's first fault.
 abbrev pub fault_line : List ℕ → LineFault → List ℕ
 fault_line file fault = place_line file fault.line (reason_name fault.reason)
 
+-- The line of a packet that can't be made. It is no line of the file, so its number is 0.
 abbrev pub unmade_line : List ℕ → Unmade → List ℕ
 unmade_line file why = place_line file 0 (unmade_name why)
 

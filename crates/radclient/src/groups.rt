@@ -4,12 +4,12 @@ ghost use Rattle.std.specs.Prelude.{◌≡◌, Ok, OnOk};
 ghost use Rattle.rad_dict.specs.Base.{base_definitions};
 ghost use Rattle.rad_text.specs.Lines.{lines_of};
 ghost use Rattle.rad_text.specs.Read.{Gives};
-ghost use Rattle.radclient.specs.Groups.{added, closed, error_of, groups_of, lines_read, is_empty, is_one_too_many, is_plain, line_read, passed, taken, unread, with_item, with_items, with_line};
+ghost use Rattle.radclient.specs.Groups.{added, closed, error_of, groups_of, lines_read, is_empty, is_one_too_many, line_read, passed, taken, unread, with_items, with_line};
 
 use crate::fault::{LineFault, Reason};
 use rad_dict::Dict;
 use rad_outside::NoMemory;
-use rad_pairs::{Item, ItemList, PairFault, PairOp, read_pairs};
+use rad_pairs::{Item, ItemList, PairFault, read_plain_pairs};
 use rad_text::{ReadError, after_blanks, first_line};
 use rad_value::{ListName, Lists, Pair};
 use std::alloc::Global;
@@ -29,13 +29,6 @@ fn is_empty(text: &[u8]) -> bool
     after_blanks(text).is_empty()
 }
 
-/// Whether the operator is `=`.
-fn is_plain(op: PairOp) -> bool
-    ensures { result ≡ is_plain op }
-{
-    matches!(op, PairOp::Eq)
-}
-
 /// Adds a pair to a group.
 fn add(alloc: Global, pairs: &mut Lists, item: &Item) -> Result<(), NoMemory>
     ensures { OnOk result (pairs.new ≡ added pairs.old item.now) }
@@ -51,31 +44,15 @@ fn add(alloc: Global, pairs: &mut Lists, item: &Item) -> Result<(), NoMemory>
     Ok(())
 }
 
-/// Adds an item's pair to a group.
-fn add_item(alloc: Global, pairs: &mut Lists, item: &Item) -> Result<(), ReadError<Reason>>
-    ensures { Gives (λ _. pairs.new) result (with_item pairs.old item.now) }
-{
-    if !is_plain(item.op) {
-        return Err(ReadError::Wrong(Reason::BadOperator));
-    }
-    match add(alloc, pairs, item) {
-        Ok(()) => Ok(()),
-        Err(NoMemory) => Err(ReadError::NoMemory),
-    }
-}
-
 /// Adds the pairs of a line to a group.
-fn add_items(alloc: Global, pairs: &mut Lists, items: &ItemList) -> Result<(), ReadError<Reason>>
-    ensures { Gives (λ _. pairs.new) result (with_items pairs.old items.now) }
+fn add_items(alloc: Global, pairs: &mut Lists, items: &ItemList) -> Result<(), NoMemory>
+    ensures { OnOk result (pairs.new ≡ with_items pairs.old items.now) }
 {
     for n in 0..items.len() {
         let Some(item) = items.get(n) else {
             break;
         };
-        match add_item(alloc, pairs, item) {
-            Ok(()) => {}
-            Err(error) => return Err(error),
-        }
+        add(alloc, pairs, item)?;
     }
     Ok(())
 }
@@ -102,8 +79,11 @@ fn add_line(
     requires { dict.now ≡ base_definitions }
     ensures { Gives (λ _. pairs.new) result (with_line pairs.old text.now) }
 {
-    match read_pairs(alloc, text, dict) {
-        Ok(items) => add_items(alloc, pairs, &items),
+    match read_plain_pairs(alloc, text, dict) {
+        Ok(items) => match add_items(alloc, pairs, &items) {
+            Ok(()) => Ok(()),
+            Err(NoMemory) => Err(ReadError::NoMemory),
+        },
         Err(fault) => Err(error_of(fault)),
     }
 }
