@@ -9,6 +9,7 @@ use Rattle.rad_value.specs.declared.edits.ListName.{ListName}
 use Rattle.mod_base.specs.Situation.{Situation}
 use Rattle.mod_base.specs.Meaning.{Makes, StaysWithin, IsLawful}
 
+-- Between a situation and itself no effect was made.
 pub makes_nothing : (situation : Situation) → Makes situation situation []
 makes_nothing situation = record {
   effects = sym (append-nil situation.effects);
@@ -17,6 +18,7 @@ makes_nothing situation = record {
   sessions = refl;
 }
 
+-- A scope stays within any frame of itself.
 pub stays_alone : (edits : ListName → AttrId → Bool) (scope : Scope) → StaysWithin edits scope scope
 stays_alone edits scope = record {
   pairs = λ list. refl;

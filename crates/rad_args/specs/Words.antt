@@ -89,6 +89,7 @@ is_letter letter (Letter other) = other == letter
 is_letter letter (Valued other value) = other == letter
 is_letter letter (Plain word) = false
 
+-- A letter was given, with a value or without.
 abbrev pub has_letter : ℕ → List Item → Bool
 has_letter letter items = list_any (is_letter letter) items
 

@@ -47,6 +47,7 @@ abbrev pub ends : Growth → List Open → Result Growth ConfFault
 ends growth [] = Ok growth
 ends growth (block ∷ outer) = if nat_lt growth.outside (length growth.opens) then Err (fault.Unclosed block.place) else Ok growth
 
+-- The same of the blocks that are open there, of which the innermost was opened last.
 abbrev pub ended : Growth → Result Growth ConfFault
 ended growth = ends growth (reverse growth.opens)
 

@@ -69,6 +69,7 @@ paths_read include files root place optional (path ∷ paths) growth =
     found_read include place optional path growth (found_at (joined root path) files) >>= (λ (next : Growth).
     paths_read include files root place optional paths next)
 
+-- The tree after the files of an include, none where its file or its folder is missing.
 abbrev pub listed_read : Include → List File → List ℕ → Place → Bool → Growth → Option (List (List ℕ)) → Result Growth ConfFault
 listed_read include files root place optional growth None = missing place optional growth
 listed_read include files root place optional growth (Some paths) = paths_read include files root place optional paths growth

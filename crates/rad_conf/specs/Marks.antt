@@ -88,6 +88,7 @@ keyword_of word =
     else (if str_eq_ignore_ascii_case word (codes "$-INCLUDE") then keyword.TryInclude
     else keyword.Plain))
 
+-- What an item is by the keyword that its bare word is.
 abbrev pub item_of : Growth → Keyword → List ℕ → Result (Mark × List ℕ) Wrong
 item_of growth keyword.Condition text = condition_item growth (bare_text text) (after_blanks (drop (bare_len 0 text) text))
 item_of growth keyword.Include text = include_item growth false (after_blanks (drop (bare_len 0 text) text))

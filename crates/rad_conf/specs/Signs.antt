@@ -41,6 +41,7 @@ variable_at text = if slice_index text 0 == 36 then braces_at (drop 1 text) else
 unfoldable pub is_count : ℕ → ℕ → ℕ → Bool
 is_count c d e = c == 91 && d == 35 && e == 93
 
+-- How many octets a `$` or `%` takes with what stands in its braces, or alone.
 abbrev pub group_len : Option ℕ → ℕ
 group_len None = 1
 group_len (Some len) = len + 3

@@ -39,6 +39,7 @@ quoted_from quote len escaped (c ∷ rest) =
     else (if c == quote && not escaped then Some len
     else quoted_from quote (len + 1) (c == 92 && not escaped) rest)
 
+-- How many octets stand before the quote that closes a text, behind the one that opened it; none where the line has none.
 abbrev pub quoted_len : ℕ → List ℕ → Option ℕ
 quoted_len quote text = quoted_from quote 0 false text
 
@@ -107,6 +108,7 @@ spelled_from growth how out ahead [] = Ok out
 spelled_from growth how out ahead (c ∷ rest) =
     spelled_by growth how out ahead (c ∷ rest) >>= (λ (next : List ℕ × Ahead). spelled_from growth how next.0 next.1 rest)
 
+-- The text that a word spells.
 abbrev pub spelled : Growth → Spelling → List ℕ → Result (List ℕ) Wrong
 spelled growth how raw = spelled_from growth how [] Reads raw
 

@@ -25,6 +25,7 @@ abbrev pub AreOf : {S E O B : Type 0} {g : Ghosts S E O B} → Desk S E O B → 
 AreOf desk [] = ⊤
 AreOf desk (seat ∷ seats) = IsOf desk seat × AreOf desk seats
 
+-- There is one way at most in which seats are those of a desk.
 pub AreOf-prop : {S E O B : Type 0} {g : Ghosts S E O B} (desk : Desk S E O B) (seats : List (Seat S E O B g)) → IsProp (AreOf desk seats)
 AreOf-prop desk [] = Unit-prop
 AreOf-prop desk (seat ∷ seats) = ×_prop (IsOf-prop desk seat) (AreOf-prop desk seats)

@@ -42,17 +42,19 @@ raw_line s =
 abbrev pub since_text : ℕ → List ℕ
 since_text since = if nat_le since last_moment then date_time_text (date_of since) else decimal since
 
--- The columns of a session, with a blank behind each: the user at the left of 20 places, the port at the right of 10, when
--- it began, and addresses at the left of 15.
+-- The user at the left of 20 places, and a blank, as stands behind each column.
 unfoldable pub user_column : List ℕ → List ℕ
 user_column user = left_in 20 (escaped false user) ++ 32 ∷ []
 
+-- The port at the right of 10 places, and a blank.
 unfoldable pub port_column : ℕ → List ℕ
 port_column port = right_in 32 10 (decimal port) ++ 32 ∷ []
 
+-- When the session began, and a blank.
 unfoldable pub since_column : ℕ → List ℕ
 since_column since = since_text since ++ 32 ∷ []
 
+-- An address at the left of 15 places, and a blank.
 unfoldable pub address_column : ℕ → List ℕ
 address_column address = left_in 15 (dotted address) ++ 32 ∷ []
 
@@ -66,6 +68,7 @@ abbrev pub has_user : Option (List ℕ) → List ℕ → Bool
 has_user None name = true
 has_user (Some user) name = bytes_eq (map to_ascii_lowercase user) (map to_ascii_lowercase name)
 
+-- The NAS is the one that is wanted.
 abbrev pub has_nas : Option ℕ → ℕ → Bool
 has_nas None nas = true
 has_nas (Some wanted) nas = wanted == nas

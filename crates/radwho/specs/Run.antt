@@ -43,10 +43,11 @@ limit = 67108864
 unfoldable pub usage_line : List ℕ
 usage_line = codes "usage: radwho [-r] [-n] [-s] [-u USER] [-N ADDRESS] [-F FILE]" ++ 10 ∷ []
 
--- The line of a log that couldn't be read, and of one that is too long, with its length.
+-- The line of a log that couldn't be read.
 unfoldable pub read_fault_line : List ℕ
 read_fault_line = codes "read fault" ++ 10 ∷ []
 
+-- The line of a log that is too long, with its length in octets.
 unfoldable pub too_long_line : ℕ → List ℕ
 too_long_line length = codes "log too long " ++ (decimal length ++ 10 ∷ [])
 

@@ -38,6 +38,7 @@ is_braced_at Part-F.NoSource = true
 is_braced_at (Part-F.Alternative first second) = true
 is_braced_at (Part-F.Call function parts) = true
 
+-- Whether a part is written in braces.
 abbrev pub is_braced : Part → Bool
 is_braced part = is_braced_at (out-Part part)
 
