@@ -2,8 +2,8 @@
 
 use crate::plan::Plan;
 use rad_edge::Cue;
-use rad_outside::{NoMemory, Octets, Peer};
-use shared_cases::{Case, Field, decimal, hexadecimal, numbers, words};
+use rad_outside::{NoMemory, Octets};
+use shared_cases::{Case, Field, hexadecimal, numbers, peer_of, texts};
 use std::alloc::Global;
 
 /// What a case says.
@@ -26,7 +26,7 @@ fn take(alloc: Global, plan: &mut Plan, field: &Field) -> Result<bool, NoMemory>
             let text = Octets::of(alloc, text)?;
             plan.files.push((path, text))?;
         }
-        b"words" => plan.words = texts_of(alloc, text)?,
+        b"words" => plan.words = texts(alloc, text)?,
         b"from" => plan.from = peer_of(text),
         b"datagram" => {
             let octets = Octets::from_vec(hexadecimal(alloc, text)?);
@@ -56,25 +56,4 @@ fn take_numbers(
         _ => return Ok(false),
     }
     Ok(true)
-}
-
-/// The words of a text. Octets that are no UTF-8 are replaced.
-fn texts_of(alloc: Global, text: &[u8]) -> Result<Vec<String>, NoMemory> {
-    let mut list = Vec::new(alloc);
-    for word in words(alloc, text)? {
-        list.push(String::from_utf8_lossy(alloc, word)?)?;
-    }
-    Ok(list)
-}
-
-/// An address and a port, as in `192.168.1.16:1234`.
-fn peer_of(text: &[u8]) -> Peer {
-    let mut parts = text.split(|octet| *octet == b':');
-    let mut addr = 0u32;
-    for part in parts.next().unwrap_or(&[]).split(|octet| *octet == b'.') {
-        let part = u32::try_from(decimal(part)).unwrap_or(0);
-        addr = (addr & 0xff_ffff) * 256 + (part & 255);
-    }
-    let port = u16::try_from(decimal(parts.next().unwrap_or(&[]))).unwrap_or(0);
-    Peer { addr, port }
 }

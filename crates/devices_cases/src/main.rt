@@ -8,7 +8,6 @@ mod crews;
 mod devices;
 mod files;
 mod number_lists;
-mod peers;
 mod shelves;
 mod sinks;
 mod wires;

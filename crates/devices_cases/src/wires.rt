@@ -1,10 +1,9 @@
 //! `MemWire`: a script of datagrams and quiet whiles, and receives and sends that fail.
 
 use crate::answers::{parted, say, say_no_call, say_whether_done, say_whether_telling};
-use crate::peers::{peer_of, peer_text};
 use rad_edge::{Cue, MemWire};
 use rad_outside::{Got, Heard, NoMemory, Octets, Peer, Sent, Wire};
-use shared_cases::{Case, Field, decimal, numbers};
+use shared_cases::{Case, Field, decimal, numbers, peer_of, push_peer};
 use std::alloc::Global;
 
 /// The answers of the wire of a case to its calls.
@@ -119,6 +118,7 @@ fn say_datagram(
     peer: Peer,
     octets: &[u8],
 ) -> Result<(), NoMemory> {
-    let peer = peer_text(alloc, peer)?;
-    say(answers, &[b"datagram ", peer.as_bytes(), b" ", octets])
+    answers.extend_from_slice(b"datagram ")?;
+    push_peer(alloc, answers, peer)?;
+    say(answers, &[b" ", octets])
 }

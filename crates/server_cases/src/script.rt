@@ -2,8 +2,8 @@
 
 use crate::plan::Plan;
 use rad_edge::Cue;
-use rad_outside::{NoMemory, Octets, Peer};
-use shared_cases::{Case, Field, decimal, hexadecimal, numbers, words};
+use rad_outside::{NoMemory, Octets};
+use shared_cases::{Case, Field, decimal, hexadecimal, numbers, peer_of, texts, words};
 use std::alloc::Global;
 
 /// What a case says: its runs, in order, which share a hub and its session log.
@@ -62,7 +62,7 @@ fn take_of_run(alloc: Global, plan: &mut Plan, name: &[u8], text: &[u8]) -> Resu
     match name {
         [b'@', path @ ..] => take_file(alloc, plan, path, text)?,
         b"map" => plan.maps.push(Vec::new(alloc))?,
-        b"words" => plan.words = texts_of(alloc, text)?,
+        b"words" => plan.words = texts(alloc, text)?,
         b"from" => plan.from = peer_of(text),
         b"datagram" => {
             let octets = Octets::from_vec(hexadecimal(alloc, text)?);
@@ -125,25 +125,4 @@ fn path_of(alloc: Global, path: &[u8]) -> Result<Octets, NoMemory> {
     let mut whole = Vec::from_slice(alloc, b"site/")?;
     whole.extend_from_slice(path)?;
     Ok(Octets::from_vec(whole))
-}
-
-/// The words of a text. Octets that are no UTF-8 are replaced.
-fn texts_of(alloc: Global, text: &[u8]) -> Result<Vec<String>, NoMemory> {
-    let mut list = Vec::new(alloc);
-    for word in words(alloc, text)? {
-        list.push(String::from_utf8_lossy(alloc, word)?)?;
-    }
-    Ok(list)
-}
-
-/// An address and a port, as in `192.168.1.16:1234`.
-fn peer_of(text: &[u8]) -> Peer {
-    let mut parts = text.split(|octet| *octet == b':');
-    let mut addr = 0u32;
-    for part in parts.next().unwrap_or(&[]).split(|octet| *octet == b'.') {
-        let part = u32::try_from(decimal(part)).unwrap_or(0);
-        addr = (addr & 0xff_ffff) * 256 + (part & 255);
-    }
-    let port = u16::try_from(decimal(parts.next().unwrap_or(&[]))).unwrap_or(0);
-    Peer { addr, port }
 }

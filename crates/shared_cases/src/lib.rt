@@ -6,14 +6,18 @@
 
 mod block_form;
 mod case;
+mod peers;
 mod row_form;
 mod spelling;
 mod tally;
+mod transcript;
 
 pub use block_form::blocks;
 pub use case::{Case, Field};
+pub use peers::{peer_of, push_peer};
 pub use row_form::rows;
 pub use spelling::{
-    after_word, decimal, hexadecimal, numbers, push_hexadecimal, push_number, words,
+    after_word, decimal, hexadecimal, numbers, push_hexadecimal, push_number, texts, words,
 };
 pub use tally::{Form, Subject, Tally};
+pub use transcript::{push_printed, push_sent};

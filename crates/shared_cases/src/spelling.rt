@@ -133,3 +133,12 @@ pub fn after_word<'a>(text: &'a [u8], word: &[u8]) -> Option<&'a [u8]> {
         _ => None,
     }
 }
+
+/// The words of a text as strings. Octets that are no UTF-8 are replaced.
+pub fn texts(alloc: Global, text: &[u8]) -> Result<Vec<String>, NoMemory> {
+    let mut list = Vec::new(alloc);
+    for word in words(alloc, text)? {
+        list.push(String::from_utf8_lossy(alloc, word)?)?;
+    }
+    Ok(list)
+}
