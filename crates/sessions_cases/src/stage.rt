@@ -5,7 +5,7 @@ use crate::many::many;
 use crate::word::{Parts, change_of, split_word};
 use rad_outside::NoMemory;
 use rad_sessions::{Change, RoomFault, Sessions};
-use shared_cases::push_number;
+use shared_cases::{decimal, push_number};
 use std::alloc::Global;
 
 #[derive(Drop)]
@@ -33,17 +33,25 @@ impl Stage {
         match first {
             b"old" => ask(self.alloc, &self.old, rest, answer),
             b"between" => ask(self.alloc, &self.between, rest, answer),
-            b"snap" => {
-                self.old = self.now.snapshot()?;
-                Ok(answer.extend_from_slice(b"snapped")?)
-            }
-            b"fill" => {
-                self.now = many(self.alloc, Parts::of(self.alloc, rest)?.number(0))?;
-                Ok(answer.extend_from_slice(b"filled")?)
-            }
+            b"snap" => self.snap(answer),
+            b"fill" => self.fill(u32::try_from(decimal(rest)).unwrap_or(0), answer),
             b"room" => self.make_room(rest, answer),
             _ => self.change_or_ask(word, answer),
         }
+    }
+
+    /// Keeps a snapshot.
+    fn snap(&mut self, answer: &mut Vec<u8>) -> Result<(), NoMemory> {
+        answer.extend_from_slice(b"snapped")?;
+        self.old = self.now.snapshot()?;
+        Ok(())
+    }
+
+    /// From here on there are so many sessions.
+    fn fill(&mut self, count: u32, answer: &mut Vec<u8>) -> Result<(), NoMemory> {
+        answer.extend_from_slice(b"filled")?;
+        self.now = many(self.alloc, count)?;
+        Ok(())
     }
 
     /// Makes room for a change, which isn't done.
@@ -68,8 +76,9 @@ impl Stage {
     fn change(&mut self, change: Change, answer: &mut Vec<u8>) -> Result<(), NoMemory> {
         match self.now.make_room(&change) {
             Ok(()) => {
-                self.between = self.now.snapshot()?;
+                let between = self.now.snapshot();
                 self.now.apply(change);
+                self.between = between?;
                 Ok(answer.extend_from_slice(b"done")?)
             }
             Err(fault) => say_fault(self.alloc, fault, answer),
