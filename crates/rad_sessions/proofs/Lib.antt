@@ -4,5 +4,8 @@ pub mod LogLines
 pub mod Logging
 pub mod Keying
 pub mod LineByLine
+pub mod Order
+pub mod Merging
+pub mod Parting
 mod Sizes
 mod Standing

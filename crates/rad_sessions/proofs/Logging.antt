@@ -11,7 +11,7 @@ use Rattle.rad_sessions.specs.Pieces.{Written, octets_of_one, is_whole, octets_o
 use Rattle.rad_sessions.proofs.LogLines.{flat_line, flat_take, mark_parts, flat_parts, flat_alone, line_alone}
 
 -- A part of a piece that isn't whole says nothing.
-cut_piece : (log : List ℕ) (change : Change) (n : ℕ) → IsChange change → n < length (piece_of change) → folded (log ++ take n (piece_of change)) ≡ folded log
+pub cut_piece : (log : List ℕ) (change : Change) (n : ℕ) → IsChange change → n < length (piece_of change) → folded (log ++ take n (piece_of change)) ≡ folded log
 cut_piece log change zero all short = ap folded (append-nil log)
 cut_piece log change (suc zero) all short = flat_parts [] log (126 ∷ []) (omega arith, tt)
 cut_piece log change (suc (suc n)) all short =
@@ -20,7 +20,7 @@ cut_piece log change (suc (suc n)) all short =
     ∙ ap (folded_onto (folded log)) (take-append-le n (line_of change) (10 ∷ []) within)
     ∙ flat_alone (folded log) (take n (line_of change)) (flat_take n (line_of change) (flat_line change all))
 
-whole_piece : (log : List ℕ) (change : Change) → IsChange change → is_too_many (folded log) change ≡ false → folded (log ++ piece_of change) ≡ after (folded log) change
+pub whole_piece : (log : List ℕ) (change : Change) → IsChange change → is_too_many (folded log) change ≡ false → folded (log ++ piece_of change) ≡ after (folded log) change
 whole_piece log change all fits =
     mark_parts [] log (line_of change ++ 10 ∷ []) ∙ line_alone (folded log) change all ∙ cond-false (is_too_many (folded log) change) _ _ fits
 

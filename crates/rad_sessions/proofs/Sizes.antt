@@ -27,7 +27,7 @@ filter_shorter test (s ∷ sessions) = by (test s) (filter_shorter test sessions
     by false h = omega (arith, h)
 
 -- A session that is found at a place is of that place.
-found_there : (place : ℕ × ℕ) (sessions : List Session) (s : Session) → session_at place sessions ≡ Some s → place ≡ place_of s
+pub found_there : (place : ℕ × ℕ) (sessions : List Session) (s : Session) → session_at place sessions ≡ Some s → place ≡ place_of s
 found_there place [] s e = absurd cc
 found_there place (first ∷ sessions) s e = by (is_at place first) refl (λ f. found_there place sessions s f) e
   where

@@ -4,3 +4,4 @@ pub mod Laws
 pub mod Pieces
 pub mod Keyed
 pub mod Kept
+pub mod Parts

@@ -2,6 +2,7 @@
 
 ghost use Rattle.std.specs.Prelude.{◌≡◌, ◌<◌, ◌++◌, OnOk, IfOk};
 ghost use Rattle.std.specs.Char.{digit_char};
+ghost use Rattle.rad_sessions.specs.Laws.{AreOctets};
 ghost use Rattle.rad_sessions.specs.Log.{hex_of, hex_word, octets_of};
 
 use rad_outside::{NoMemory, Octets};
@@ -22,7 +23,8 @@ fn hex_digit(number: u8) -> u8
 
 /// Adds two digits an octet.
 fn put_hex(text: &mut Vec<u8>, octets: &[u8]) -> Result<(), NoMemory>
-    ensures { OnOk result (text.new.items ≡ text.old.items ++ hex_of octets.now) }
+    ensures text { OnOk result (text.new.items ≡ text.old.items ++ hex_of octets.now) }
+    ensures typed { OnOk result (AreOctets octets.now) }
 {
     for octet in octets {
         text.push(hex_digit(*octet / 16))?;
@@ -33,7 +35,8 @@ fn put_hex(text: &mut Vec<u8>, octets: &[u8]) -> Result<(), NoMemory>
 
 /// Adds two digits an octet, or `-` where there is none.
 pub(crate) fn put_hex_word(text: &mut Vec<u8>, octets: &[u8]) -> Result<(), NoMemory>
-    ensures { OnOk result (text.new.items ≡ text.old.items ++ hex_word octets.now) }
+    ensures typed { OnOk result (AreOctets octets.now) }
+    ensures text { OnOk result (text.new.items ≡ text.old.items ++ hex_word octets.now) }
 {
     match octets {
         [] => {

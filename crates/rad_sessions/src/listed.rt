@@ -1,11 +1,14 @@
 //! A list of sessions in which a place is found without a look at the others.
 
-ghost use Rattle.std.specs.Prelude.{◌≡◌, ◌≤◌, ◌+◌, [], length, OnOk, IfOk};
+ghost use Rattle.std.specs.Prelude.{◌≡◌, ◌≤◌, ◌+◌, [], length, OnOk, IfOk, if◌then◌else◌};
+ghost use Rattle.std.specs.Arc.{arc_value};
 ghost use Rattle.std.specs.Option.{option_copied};
 ghost use Rattle.std.specs.List.{filter};
 ghost use Rattle.rad_sessions.specs.Keyed.{grown};
 ghost use Rattle.rad_sessions.specs.Listed.{AreInOrder, place_of, session_at, begun, ended, begun_again, renewed_at, is_elsewhere, count_of, limit};
+ghost use Rattle.rad_sessions.specs.Parts.{all_begun, is_in};
 
+use crate::part::part_of;
 use crate::session::Session;
 use crate::session_list::SessionList;
 use rad_outside::NoMemory;
@@ -65,9 +68,49 @@ impl Listed {
         ensures list { OnOk result (self.new ≡ begun session self.old) }
         ensures grown { OnOk result (length self.new ≡ length self.old + grown (session_at (place_of session) self.old)) }
     {
+        self.begin_shared(Arc::new(alloc, session)?)
+    }
+
+    /// One session more in its place, which is shared.
+    fn begin_shared(&mut self, session: Arc<Session>) -> Result<(), NoMemory>
+        ensures list { OnOk result (self.new ≡ begun (arc_value session) self.old) }
+        ensures grown { OnOk result (length self.new ≡ length self.old + grown (session_at (place_of (arc_value session)) self.old)) }
+    {
         let place = (session.nas, session.port);
-        let shared = Arc::new(alloc, session)?;
-        self.entries.insert(place, shared)?;
+        self.entries.insert(place, session)?;
+        Ok(())
+    }
+
+    /// One session more, where it stands in a part.
+    fn begin_in(&mut self, part: usize, session: &Arc<Session>) -> Result<(), NoMemory>
+        ensures { OnOk result (self.new ≡ (if is_in part (arc_value session.now) then begun (arc_value session.now) self.old else self.old)) }
+    {
+        if part_of(session.user.as_slice()) == part {
+            self.begin_shared(Arc::try_clone(session)?)
+        } else {
+            Ok(())
+        }
+    }
+
+    /// The sessions of a part.
+    pub(crate) fn part(&self, alloc: Global, part: usize) -> Result<Listed, NoMemory>
+        ensures list { IfOk result (λ listed. listed ≡ filter (is_in part) self.now) }
+        ensures order { OnOk result (AreInOrder self.now) }
+    {
+        let mut listed = Listed::new(alloc);
+        for (_, session) in self.entries.iter() {
+            listed.begin_in(part, session)?;
+        }
+        Ok(listed)
+    }
+
+    /// With the sessions of another list, each in its place.
+    pub(crate) fn take_in(&mut self, other: &Listed) -> Result<(), NoMemory>
+        ensures { OnOk result (self.new ≡ all_begun self.old other.now) }
+    {
+        for (_, session) in &other.entries {
+            self.begin_shared(Arc::try_clone(session)?)?;
+        }
         Ok(())
     }
 

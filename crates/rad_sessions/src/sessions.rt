@@ -12,6 +12,7 @@ use crate::change::Change;
 use crate::fault::RoomFault;
 use crate::folding::folded;
 use crate::listed::Listed;
+use crate::parts::Parts;
 use crate::session::Session;
 use crate::session_list::SessionList;
 use rad_outside::NoMemory;
@@ -23,15 +24,15 @@ use std::sync::Arc;
 #[derive(Debug, Drop)]
 struct Room {
     change: Change,
-    ready: Arc<Listed>,
+    ready: Arc<Parts>,
 }
 
-/// Sessions in order of their places, 65,536 at most, and the change that room was made for, or none. The list is shared
-/// with snapshots; a change builds the next list beside it.
+/// Sessions in order of their places, 65,536 at most, and the change that room was made for, or none. The list is kept in
+/// parts and shared with snapshots; a change builds the parts that it changes beside it.
 #[derive(Debug, Drop)]
 pub struct Sessions {
     alloc: Global,
-    shared: Option<Arc<Listed>>,
+    shared: Option<Arc<Parts>>,
     room: Option<Room>,
 }
 
@@ -70,7 +71,7 @@ impl Sessions {
         ensures { option_copied result ≡ session_at (nas, port) self.now.sessions }
     {
         match &self.shared {
-            Some(listed) => listed.at(nas, port),
+            Some(parts) => parts.at(nas, port),
             None => None,
         }
     }
@@ -80,7 +81,7 @@ impl Sessions {
         ensures { result ≡ count_of user.now self.now.sessions }
     {
         match &self.shared {
-            Some(listed) => listed.count(user),
+            Some(parts) => parts.count(user),
             None => 0,
         }
     }
@@ -92,7 +93,7 @@ impl Sessions {
         Ok(Sessions {
             alloc: self.alloc,
             shared: match &self.shared {
-                Some(listed) => Some(Arc::try_clone(listed)?),
+                Some(parts) => Some(Arc::try_clone(parts)?),
                 None => None,
             },
             room: None,
@@ -130,7 +131,7 @@ impl Sessions {
         ensures { result ≡ is_too_many self.now.sessions change.now }
     {
         match &self.shared {
-            Some(listed) => listed.is_too_many(change),
+            Some(parts) => parts.is_too_many(change),
             None => false,
         }
     }
@@ -140,33 +141,23 @@ impl Sessions {
         requires { is_too_many self.now.sessions change.now ≡ false }
         ensures { IfOk result (λ room. (room.change ≡ change.now) × IsReady self.now.sessions change.now (arc_value room.ready)) }
     {
-        let kept = change.copy(self.alloc)?;
-        let done = change.copy(self.alloc)?;
-        let ready = self.list_after(done)?;
+        let ready = self.list_after(change)?;
         Ok(Room {
-            change: kept,
+            change: change.copy(self.alloc)?,
             ready,
         })
     }
 
     /// The list after a change.
-    fn list_after(&self, change: Change) -> Result<Arc<Listed>, NoMemory>
-        requires { is_too_many self.now.sessions change ≡ false }
-        ensures { IfOk result (λ ready. IsReady self.now.sessions change (arc_value ready)) }
+    fn list_after(&self, change: &Change) -> Result<Arc<Parts>, NoMemory>
+        requires { is_too_many self.now.sessions change.now ≡ false }
+        ensures { IfOk result (λ ready. IsReady self.now.sessions change.now (arc_value ready)) }
     {
-        let mut list = self.list()?;
-        list.change(self.alloc, change)?;
-        Ok(Arc::new(self.alloc, list)?)
-    }
-
-    /// A list of the same sessions.
-    fn list(&self) -> Result<Listed, NoMemory>
-        ensures { IfOk result (λ listed. listed ≡ self.now.sessions) }
-    {
-        match &self.shared {
-            Some(listed) => listed.copy(),
-            None => Ok(Listed::new(self.alloc)),
-        }
+        let next = match &self.shared {
+            Some(parts) => parts.after(self.alloc, change)?,
+            None => Parts::of(self.alloc, &Listed::new(self.alloc))?.after(self.alloc, change)?,
+        };
+        Ok(Arc::new(self.alloc, next)?)
     }
 
     /// The sessions in order of their places, no two at one.
@@ -175,7 +166,7 @@ impl Sessions {
         ensures order { OnOk result (AreInOrder self.now.sessions) }
     {
         match &self.shared {
-            Some(listed) => listed.sorted(self.alloc),
+            Some(parts) => parts.sorted(self.alloc),
             None => Ok(SessionList::from_vec(Vec::new(self.alloc))),
         }
     }
@@ -187,9 +178,10 @@ pub fn fold_log(alloc: Global, bytes: &[u8]) -> Result<Sessions, NoMemory>
     ensures { IfOk result (λ sessions. sessions ≡ without_room (folded bytes.now)) }
 {
     let list = folded(alloc, bytes)?;
+    let parts = Parts::of(alloc, &list)?;
     Ok(Sessions {
         alloc,
-        shared: Some(Arc::new(alloc, list)?),
+        shared: Some(Arc::new(alloc, parts)?),
         room: None,
     })
 }
