@@ -1,7 +1,7 @@
 -- The first of a list that passes a test.
 use Rattle.std.specs.Prelude.{not}
-use Rattle.std.specs.List.{find, list_all}
-use Rattle.std.proofs.Common.{◌≡◌, ℕ, ◌<◌, Bool, true, false, cond, ◌&&◌, List, [], ◌∷◌, ◌++◌, length, drop, Option, Some, None, refl, sym, ap, ◌∙◌}
+use Rattle.std.specs.List.{find, list_all, slice_get}
+use Rattle.std.proofs.Common.{◌≡◌, ℕ, zero, suc, ◌+◌, Bool, true, false, cond, ◌&&◌, List, [], ◌∷◌, ◌++◌, drop, Some, None, refl, ap, ◌∙◌, add-one}
 
 -- An element is the first of a list that passes: none before it does.
 pub record IsFirst {X : Type 0} (p : X → Bool) (xs : List X) (x : X) : Type 0 where
@@ -32,3 +32,15 @@ module _ {X : Type 0} (p : X → Bool) where
 
   pub first_found : (xs : List X) (x : X) → IsFirst p xs x → find p xs ≡ Some x
   first_found xs x first = ap (find p) first.list ∙ found_behind first.before first.after x first.none_before first.passes
+
+  -- a search from a place on: there, or further on, or past the end
+  pub find_from : (xs : List X) (n : ℕ) (x : X) → slice_get xs n ≡ Some x → find p (drop n xs) ≡ cond (p x) (Some x) (find p (drop (n + 1) xs))
+  find_from [] n x is = absurd (cc)
+  find_from (y ∷ xs) zero x is = let same : y ≡ x = cc in rw same refl
+  find_from (y ∷ xs) (suc n) x is = simp add-one (simp add-one at (find_from xs n x is))
+
+  pub find_past : (xs : List X) (n : ℕ) → slice_get xs n ≡ None → find p (drop n xs) ≡ None
+  find_past [] zero is = refl
+  find_past [] (suc n) is = refl
+  find_past (y ∷ xs) zero is = absurd (cc)
+  find_past (y ∷ xs) (suc n) is = find_past xs n is

@@ -1,13 +1,10 @@
 -- Whoever is let in knows the password, and whoever knows it is let in.
 use Rattle.std.specs.Prelude.{is_some}
-use Rattle.std.specs.List.{find}
 use Rattle.std.specs.Option.{option_and_then}
 use Rattle.std.specs.Str.{bytes_eq}
-use Rattle.std.proofs.Common.{◌≡◌, ◌≢◌, ◌↔◌, ℕ, Bool, true, false, cond, eqb, List, [], ◌∷◌, ◌++◌, length, take, drop, Option, Some, None, refl, sym, ap, ◌∙◌, eq-eqb, arith}
-use Rattle.std.proofs.lemmas.Bool.{eqb-true}
+use Rattle.std.proofs.Common.{◌≡◌, ◌≢◌, ◌↔◌, ℕ, true, false, cond, eqb, List, [], ◌∷◌, ◌++◌, length, Option, Some, None, refl, ap, ◌∙◌, eq-eqb, arith}
 use Rattle.md5.specs.Md5.{md5}
 use Rattle.md5.proofs.StandardFacts.{length-md5}
-use Rattle.rad_words.specs.declared.codes.Code.{Code}
 use Rattle.rad_words.specs.declared.codes.Code.TheVariants as code
 use Rattle.rad_value.specs.declared.values.Pair.{Pair}
 use Rattle.rad_value.specs.declared.values.Value.{Value}
@@ -21,7 +18,7 @@ use Rattle.mod_auth.specs.Known.{scheme_of, is_password, known_password}
 use Rattle.mod_auth.specs.Password.{verdict, by_scheme, by_both, compared}
 use Rattle.mod_auth.specs.Pap as pap
 use Rattle.mod_auth.specs.Chap as chap
-use Rattle.mod_auth.specs.LetsIn.{Knows, IsFirstKnown, KnowsThePassword, HasTheDigest}
+use Rattle.mod_auth.specs.LetsIn.{KnowsThePassword, HasTheDigest}
 use Rattle.mod_auth.proofs.FirstKnown.{IsFirst, found_is, first_found}
 use Rattle.mod_auth.proofs.Digests.{lets_in_is, is_let_in, same_octets, octets_same}
 
@@ -111,9 +108,9 @@ let_in lists k =
     let given : pap.given_password lists ≡ Some k.password = ap (option_and_then text_of) k.given in
     let known : known_password lists ≡ Some k.first.pair = first_found is_password lists.control k.first.pair first in
     let same : compared k.password k.first.pair ≡ code.Ok =
-        ap (λ (s : Option Scheme). by_both k.password s (octets_of k.first.pair.value)) k.first.kind
-        ∙ ap (λ (o : Option (List ℕ)). by_both k.password (Some k.scheme) o) k.first.octets
-        ∙ is_let_in k.scheme k.password k.known k.knows in
+    ap (λ (s : Option Scheme). by_both k.password s (octets_of k.first.pair.value)) k.first.kind
+    ∙ ap (λ (o : Option (List ℕ)). by_both k.password (Some k.scheme) o) k.first.octets
+    ∙ is_let_in k.scheme k.password k.known k.knows in
     ap (λ (g : Option (List ℕ)). pap.answered g (known_password lists)) given
     ∙ ap (λ (p : Option Pair). pap.answered (Some k.password) p) known
     ∙ is_answered k.password k.first.pair k.some same

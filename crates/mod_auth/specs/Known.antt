@@ -1,6 +1,6 @@
 -- By which pair of the control list a password is known. After FreeRADIUS' rlm_pap(5); that the first of the four in the
 -- list's own order decides is this project's own.
-use Rattle.std.specs.Prelude.{Bool, List, Option, Some, None, if◌then◌else◌}
+use Rattle.std.specs.Prelude.{Bool, Option, Some, None, if◌then◌else◌}
 use Rattle.std.specs.List.{find}
 use Rattle.std.specs.Option.{is_some}
 use Rattle.rad_words.specs.declared.attributes.AttrId.{AttrId}

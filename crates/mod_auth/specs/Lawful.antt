@@ -1,5 +1,5 @@
 -- `pap` and `chap` keep everything but Auth-Type of the control list.
-use Rattle.std.proofs.Common.{◌≡◌, ℕ, Bool, true, false, cond, List, refl}
+use Rattle.std.proofs.Common.{ℕ, Bool, true, false, cond, List, refl}
 use Rattle.rad_words.specs.declared.codes.Code.{Code}
 use Rattle.rad_words.specs.declared.codes.Code.TheVariants as code
 use Rattle.rad_words.specs.declared.sections.Section.{Section}

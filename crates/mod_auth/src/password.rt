@@ -1,6 +1,9 @@
 //! Whether a password is the one that is known.
 
-ghost use Rattle.std.specs.Prelude.{◌≡◌, ◌++◌, IfOk};
+ghost use Rattle.std.specs.Prelude.{◌≡◌, ◌≢◌, ◌++◌, None, IfOk, OnOk};
+ghost use Rattle.std.specs.Char.{is_ascii_hexdigit};
+ghost use Rattle.std.specs.List.{list_all};
+ghost use Rattle.hex.specs.declared.error.FromHexError.TheVariants.{OutOfMemory};
 ghost use Rattle.sha1.specs.Sha1.{sha1};
 ghost use Rattle.mod_auth.specs.Password.{verdict, plain_octets, digested, salted, by_scheme, compared};
 
@@ -24,18 +27,37 @@ pub(crate) fn verdict(equal: bool) -> Code
     if equal { Code::Ok } else { Code::Reject }
 }
 
+/// Whether a value is nothing but hexadecimal digits, of either case.
+fn is_digits(value: &[u8]) -> bool
+    ensures { result ≡ list_all is_ascii_hexdigit value.now }
+{
+    value.iter().all(|octet| octet.is_ascii_hexdigit())
+}
+
+/// What is left to say of digits that weren't decoded.
+fn refused(fault: FromHexError) -> Result<Option<Octets>, NoMemory>
+    ensures none { IfOk result (λ octets. octets ≡ None) }
+    ensures cause { OnOk result (fault ≢ OutOfMemory) }
+{
+    match fault {
+        FromHexError::OutOfMemory => Err(NoMemory),
+        FromHexError::InvalidHexCharacter { .. }
+        | FromHexError::OddLength
+        | FromHexError::InvalidStringLength => Ok(None),
+    }
+}
+
 /// The octets that a digest's value stands for: those that its digits spell where it is nothing but hexadecimal digits, and
 /// its own otherwise. None where it is an odd number of digits.
 fn plain_octets(alloc: Global, value: &[u8]) -> Result<Option<Octets>, NoMemory>
     ensures { IfOk result (λ octets. octets ≡ plain_octets value.now) }
 {
-    if !value.iter().all(|octet| octet.is_ascii_hexdigit()) {
+    if !is_digits(value) {
         return Ok(Some(Octets::of(alloc, value)?));
     }
     match hex::decode(alloc, value) {
         Ok(octets) => Ok(Some(Octets::from_vec(octets))),
-        Err(FromHexError::OutOfMemory) => Err(NoMemory),
-        Err(_) => Ok(None),
+        Err(fault) => refused(fault),
     }
 }
 
@@ -44,7 +66,9 @@ fn digested(digest: &[u8], known: Option<Octets>) -> Code
     ensures { result ≡ digested digest.now known }
 {
     match known {
-        Some(known) if known.as_slice().len() == digest.len() => verdict(known.as_slice() == digest),
+        Some(known) if known.as_slice().len() == digest.len() => verdict(
+            known.as_slice() == digest,
+        ),
         _ => Code::Invalid,
     }
 }
@@ -73,12 +97,7 @@ fn sha_of(password: &[u8], salt: &[u8]) -> [u8; 20]
 }
 
 /// Compares a password with a value by which it is known.
-fn by_scheme(
-    alloc: Global,
-    scheme: Scheme,
-    password: &[u8],
-    known: &[u8],
-) -> Result<Code, NoMemory>
+fn by_scheme(alloc: Global, scheme: Scheme, password: &[u8], known: &[u8]) -> Result<Code, NoMemory>
     ensures { IfOk result (λ code. code ≡ by_scheme scheme password.now known.now) }
 {
     Ok(match scheme {
