@@ -1,14 +1,13 @@
 -- What a map finds by a name in lower case is what its list of realms finds by the name.
 use Rattle.std.specs.Prelude.{map}
 use Rattle.std.specs.Char.{to_ascii_lowercase}
-use Rattle.std.specs.List.{find}
 use Rattle.std.specs.Str.{bytes_eq}
 use Rattle.std.specs.declared.vec.Vec.{Vec}
 use Rattle.std.specs.declared.alloc.Global.{Global}
 use Rattle.std.proofs.lemmas.List.{map-append}
 use Rattle.std.specs.Map.{lookup}
-use Rattle.std.proofs.Common.{◌≡◌, ℕ, Bool, true, false, cond, List, [], ◌∷◌, ◌++◌, Option, Some, None, is_some, refl, sym, ap, ◌∙◌, true≢false}
-use Rattle.indexmap.specs.IndexMap.{IndexMap, get, get_by, insert_entry}
+use Rattle.std.proofs.Common.{◌≡◌, ℕ, Bool, false, cond, List, [], ◌∷◌, ◌++◌, Option, Some, None, is_some, refl, sym, ap, ◌∙◌, true≢false}
+use Rattle.indexmap.specs.IndexMap.{IndexMap, get_by, insert_entry}
 use Rattle.indexmap.proofs.CallerLemmas.{insert_entry-new}
 use Rattle.mod_realm.specs.Realms.{Realm, realm_of, entry_realm, AreKeyed}
 
@@ -30,9 +29,9 @@ finds name [] keyed = refl
 finds name (e ∷ es) keyed =
     let key = map to_ascii_lowercase name in
     let head : e.0.items ≡ map to_ascii_lowercase e.1.name =
-        head_of e.0.items (map to_ascii_lowercase e.1.name) (map (λ (x : Vec ℕ Global × Realm). x.0.items) es) (map (λ (x : Vec ℕ Global × Realm). map to_ascii_lowercase x.1.name) es) keyed in
+    head_of e.0.items (map to_ascii_lowercase e.1.name) (map (λ (x : Vec ℕ Global × Realm). x.0.items) es) (map (λ (x : Vec ℕ Global × Realm). map to_ascii_lowercase x.1.name) es) keyed in
     let rest : AreKeyed es =
-        tail_of e.0.items (map to_ascii_lowercase e.1.name) (map (λ (x : Vec ℕ Global × Realm). x.0.items) es) (map (λ (x : Vec ℕ Global × Realm). map to_ascii_lowercase x.1.name) es) keyed in
+    tail_of e.0.items (map to_ascii_lowercase e.1.name) (map (λ (x : Vec ℕ Global × Realm). x.0.items) es) (map (λ (x : Vec ℕ Global × Realm). map to_ascii_lowercase x.1.name) es) keyed in
     ap (λ (items : List ℕ). cond (bytes_eq key items) (Some e.1) (lookup (is_key key) es)) head
     ∙ ap (λ (more : Option Realm). cond (bytes_eq key (map to_ascii_lowercase e.1.name)) (Some e.1) more) (finds name es rest)
 

@@ -1,7 +1,7 @@
 -- A name is parted where an operator reads it to be.
 use Rattle.std.specs.Prelude.{reverse, position, nat_lt, not}
 use Rattle.std.specs.List.{list_all, position_or_len}
-use Rattle.std.proofs.Common.{◌≡◌, ℕ, suc, ◌+◌, ◌-◌, ◌<◌, ◌==◌, Bool, true, false, cond, ◌&&◌, List, [], ◌∷◌, ◌++◌, length, take, drop, Option, Some, None, refl, sym, ap, ◌∙◌, arith, one-add, length-append, append_assoc, eq-eqb}
+use Rattle.std.proofs.Common.{◌≡◌, ℕ, suc, ◌+◌, ◌-◌, ◌<◌, ◌==◌, Bool, true, false, cond, ◌&&◌, List, [], ◌∷◌, ◌++◌, length, take, drop, Some, None, refl, ap, ◌∙◌, arith, one-add, length-append, append_assoc, eq-eqb}
 use Rattle.std.proofs.Math.Seq.{take-append_seam, drop-append-add}
 use Rattle.std.proofs.lemmas.Bool.{and_parts, lt-ltb}
 use Rattle.std.proofs.lemmas.List.{reverse-append, length-reverse}
@@ -46,13 +46,13 @@ module _ (d : ℕ) (user realm : List ℕ) (none : list_all (λ octet. not (octe
   suffix_parted =
       let name = user ++ d ∷ realm in
       let turned : reverse name ≡ reverse realm ++ d ∷ reverse user =
-          reverse-append user (d ∷ realm)
-          ∙ ap (λ (l : List ℕ). l ++ reverse user) (reverse-append (d ∷ []) realm)
-          ∙ append_assoc (reverse realm) (d ∷ []) (reverse user) in
+      reverse-append user (d ∷ realm)
+      ∙ ap (λ (l : List ℕ). l ++ reverse user) (reverse-append (d ∷ []) realm)
+      ∙ append_assoc (reverse realm) (d ∷ []) (reverse user) in
       let place : position (λ octet. octet == d) (reverse name) ≡ Some (length realm) =
-          ap (position (λ octet. octet == d)) turned
-          ∙ first_at (λ octet. octet == d) d (eq-eqb d d refl) (reverse realm) (reverse user) (all_reversed (λ octet. not (octet == d)) realm none)
-          ∙ ap Some (length-reverse realm) in
+      ap (position (λ octet. octet == d)) turned
+      ∙ first_at (λ octet. octet == d) d (eq-eqb d d refl) (reverse realm) (reverse user) (all_reversed (λ octet. not (octet == d)) realm none)
+      ∙ ap Some (length-reverse realm) in
       let long : length name ≡ length user + length (d ∷ realm) = length-append user (d ∷ realm) in
       let before : length name - length realm - 1 ≡ length user = omega (arith, long) in
       let behind : length name - length realm - 1 + 1 ≡ length user + 1 = omega (arith, long) in

@@ -2,7 +2,7 @@
 use Rattle.std.specs.Prelude.{min, map, filter, not}
 use Rattle.std.specs.List.{before_first, after_first, position_or_len}
 use Rattle.std.specs.Option.{option_or, option_map, option_and_then}
-use Rattle.std.proofs.Common.{◌≡◌, ℕ, ◌+◌, ◌-◌, ◌<◌, ◌≤◌, Bool, true, false, cond, List, [], ◌∷◌, ◌++◌, length, take, drop, Option, Some, None, refl, sym, ap, ◌∙◌, arith, length-append, length-drop, codes}
+use Rattle.std.proofs.Common.{◌≡◌, ℕ, ◌+◌, ◌-◌, ◌<◌, ◌≤◌, Bool, true, false, cond, List, [], ◌∷◌, length, Option, Some, None, refl, sym, ap, ◌∙◌, arith, length-append, length-drop, codes}
 use Rattle.std.proofs.lemmas.List.{length-take}
 use Rattle.rad_words.specs.declared.attributes.AttrId.{AttrId}
 use Rattle.rad_words.specs.declared.codes.Code.{Code}
@@ -12,7 +12,6 @@ use Rattle.rad_value.specs.declared.edits.Edit.{Edit}
 use Rattle.rad_value.specs.declared.edits.EditOp.TheVariants.{Set}
 use Rattle.rad_value.specs.declared.edits.ListName.TheVariants.{Request}
 use Rattle.rad_value.specs.declared.values.Pair.{Pair}
-use Rattle.rad_value.specs.declared.values.Value.{Value}
 use Rattle.rad_value.specs.declared.values.Value.TheVariants.{Text}
 use Rattle.rad_value.specs.Edit.{tried, edited, edited_by, lists_edited, pair_of}
 use Rattle.rad_value.specs.Pairs.{is_of, values_of, first_text}
@@ -25,9 +24,8 @@ use Rattle.mod_lists.specs.Edits.{text_set, after_edit, edit_or_fail}
 use Rattle.mod_realm.specs.declared.parting.RealmFormat.TheVariants.{Suffix}
 use Rattle.mod_realm.specs.declared.realm_module.Found.{Found}
 use Rattle.mod_realm.specs.Attributes.{user_name, realm, stripped_user_name}
-use Rattle.mod_realm.specs.Parting.{parted}
 use Rattle.mod_realm.specs.Realms.{Realm, realm_of, realm_for}
-use Rattle.mod_realm.specs.Named.{found_as, found_in, has_realm, found, stripped, named}
+use Rattle.mod_realm.specs.Named.{found_as, found_in, found, stripped, named}
 use Rattle.mod_realm.specs.OfRealm.{IsOfRealm}
 use Rattle.mod_realm.proofs.Partings.{suffix_parted}
 

@@ -1,6 +1,5 @@
 -- `realm` keeps everything but Realm and Stripped-User-Name of the request.
 use Rattle.std.proofs.Common.{ℕ, Bool, true, false, cond, List, Option, Some, None, refl}
-use Rattle.rad_words.specs.declared.codes.Code.{Code}
 use Rattle.rad_words.specs.declared.codes.Code.TheVariants as code
 use Rattle.rad_words.specs.declared.sections.Section.{Section}
 use Rattle.rad_words.specs.declared.sections.Section.TheVariants as section

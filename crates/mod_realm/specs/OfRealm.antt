@@ -1,5 +1,5 @@
 -- A request by a user of a realm, in an operator's words. After FreeRADIUS' rlm_realm(5).
-use Rattle.std.specs.Prelude.{ℕ, ◌≡◌, ◌≤◌, ◌==◌, Bool, true, false, not, List, ◌∷◌, ◌++◌, length, Some}
+use Rattle.std.specs.Prelude.{ℕ, ◌≡◌, ◌≤◌, ◌==◌, true, false, not, List, ◌∷◌, ◌++◌, length, Some}
 use Rattle.std.specs.List.{list_all}
 use Rattle.rad_value.specs.Pairs.{first_text}
 use Rattle.rad_value.specs.PairLists.{PairLists}

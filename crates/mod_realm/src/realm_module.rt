@@ -127,7 +127,13 @@ fn stripped(alloc: Global, found: &Found, lists: &mut Lists) -> Result<Code, NoM
 fn named(alloc: Global, found: &Found, lists: &mut Lists) -> Result<Code, NoMemory>
     ensures { IfOk result (λ code. (lists.new, code) ≡ named (Some found.now) lists.old) }
 {
-    if set_text(alloc, lists, ListName::Request, REALM, found.realm.as_slice())? {
+    if set_text(
+        alloc,
+        lists,
+        ListName::Request,
+        REALM,
+        found.realm.as_slice(),
+    )? {
         stripped(alloc, found, lists)
     } else {
         Ok(Code::Fail)

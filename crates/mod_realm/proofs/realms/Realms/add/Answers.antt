@@ -10,22 +10,22 @@ pub returns-then-is_some-clause-taken : goal.returns-then-is_some-clause-taken
 returns-then-is_some-clause-taken c =
     let key_is : c.as_slice.result.now ≡ map to_ascii_lowercase c.args.name.now = c.as_slice.ensures.value ∙ c.in_ok-key.ensures in
     let looked : c.is_some.result ≡ is_some (realm_of c.args.self.now c.args.name.now) =
-        c.is_some.ensures
-        ∙ c.get_index_of.ensures.found
-        ∙ ap (λ (k : List ℕ). is_some (lookup (is_key k) c.self.inside.realms.entries)) key_is
-        ∙ ap is_some (finds c.args.name.now c.self.inside.realms.entries c.self.invariant)
-        ∙ ap (λ (l : List Realm). is_some (realm_of l c.args.name.now)) c.self.view_is in
+    c.is_some.ensures
+    ∙ c.get_index_of.ensures.found
+    ∙ ap (λ (k : List ℕ). is_some (lookup (is_key k) c.self.inside.realms.entries)) key_is
+    ∙ ap is_some (finds c.args.name.now c.self.inside.realms.entries c.self.invariant)
+    ∙ ap (λ (l : List Realm). is_some (realm_of l c.args.name.now)) c.self.view_is in
     λ is. sym looked ∙ c.if-is_some.true
 
 pub returns-clause-free : goal.returns-clause-free
 returns-clause-free c =
     let key_is : c.as_slice.result.now ≡ map to_ascii_lowercase c.args.name.now = c.as_slice.ensures.value ∙ c.in_ok-key.ensures in
     let looked : c.is_some.result ≡ is_some (realm_of c.args.self.now c.args.name.now) =
-        c.is_some.ensures
-        ∙ c.get_index_of.ensures.found
-        ∙ ap (λ (k : List ℕ). is_some (lookup (is_key k) c.self.inside.realms.entries)) key_is
-        ∙ ap is_some (finds c.args.name.now c.self.inside.realms.entries c.self.invariant)
-        ∙ ap (λ (l : List Realm). is_some (realm_of l c.args.name.now)) c.self.view_is in
+    c.is_some.ensures
+    ∙ c.get_index_of.ensures.found
+    ∙ ap (λ (k : List ℕ). is_some (lookup (is_key k) c.self.inside.realms.entries)) key_is
+    ∙ ap is_some (finds c.args.name.now c.self.inside.realms.entries c.self.invariant)
+    ∙ ap (λ (l : List Realm). is_some (realm_of l c.args.name.now)) c.self.view_is in
     sym looked ∙ c.if-is_some.false
 
 pub invariant_of-self-2 : goal.invariant_of-self-2
