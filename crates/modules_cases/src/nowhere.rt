@@ -2,8 +2,8 @@
 
 ghost use Rattle.std.specs.Prelude.{[], None, true};
 
-use rad_world::{AppendFault, ChangeFault, World};
 use rad_sessions::{Change, Session};
+use rad_world::{AppendFault, ChangeFault, World};
 
 /// No files, and no sessions. What would be appended or changed is refused for want of memory.
 #[derive(Drop)]

@@ -36,8 +36,22 @@ pub fn run_text<M: Module>(
     let code = module.call(alloc, section, &mut scope, &mut Nowhere, dict)?;
     let mut text = Vec::from_slice(alloc, code_name(code))?;
     text.extend_from_slice(b" | request:")?;
-    push_pairs(alloc, &mut text, &scope.lists, ListName::Request, from, dict)?;
+    push_pairs(
+        alloc,
+        &mut text,
+        &scope.lists,
+        ListName::Request,
+        from,
+        dict,
+    )?;
     text.extend_from_slice(b" | control:")?;
-    push_pairs(alloc, &mut text, &scope.lists, ListName::Control, from, dict)?;
+    push_pairs(
+        alloc,
+        &mut text,
+        &scope.lists,
+        ListName::Control,
+        from,
+        dict,
+    )?;
     Ok(text)
 }
