@@ -7,6 +7,8 @@ use Rattle.std.proofs.lemmas.Bool.{and_parts, lt-ltb}
 use Rattle.std.proofs.lemmas.List.{reverse-append, length-reverse}
 use Rattle.std.proofs.lemmas.List.Folds.{list_all-append}
 use Rattle.mod_realm.specs.declared.parting.RealmFormat.TheVariants.{Suffix, Prefix}
+use Rattle.mod_realm.specs.declared.parting.RealmFormat.{RealmFormat}
+use Rattle.mod_realm.specs.OfRealm.{name_of}
 use Rattle.mod_realm.specs.Parting.{at_last, at_first, parted}
 
 both : (a b : Bool) → a ≡ true → b ≡ true → (a && b) ≡ true
@@ -68,3 +70,7 @@ module _ (d : ℕ) (user realm : List ℕ) (none : list_all (λ octet. not (octe
       ap (at_first name) (first_at (λ octet. octet == d) d (eq-eqb d d refl) realm user none)
       ∙ ap (λ (u : List ℕ). (u, take (length realm) name)) (drop-append-add realm (d ∷ user) 1)
       ∙ ap (λ (r : List ℕ). (user, r)) (take-append_seam realm (d ∷ user))
+
+pub name_parted : (format : RealmFormat) (d : ℕ) (user realm : List ℕ) → list_all (λ octet. not (octet == d)) realm ≡ true → parted format d (name_of format d user realm) ≡ (user, realm)
+name_parted Suffix d user realm none = suffix_parted d user realm none
+name_parted Prefix d user realm none = prefix_parted d user realm none

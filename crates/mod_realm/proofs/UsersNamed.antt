@@ -21,21 +21,21 @@ use Rattle.rad_value.proofs.Trying.{free_is}
 use Rattle.rad_dict.proofs.Lookups.{same_attr_is}
 use Rattle.mod_base.proofs.Frames.{filter_within}
 use Rattle.mod_lists.specs.Edits.{text_set, after_edit, edit_or_fail}
-use Rattle.mod_realm.specs.declared.parting.RealmFormat.TheVariants.{Suffix}
+use Rattle.mod_realm.specs.declared.parting.RealmFormat.{RealmFormat}
 use Rattle.mod_realm.specs.declared.realm_module.Found.{Found}
 use Rattle.mod_realm.specs.Attributes.{user_name, realm, stripped_user_name}
 use Rattle.mod_realm.specs.Realms.{Realm, realm_of, realm_for}
 use Rattle.mod_realm.specs.Named.{found_as, found_in, found, stripped, named}
 use Rattle.mod_realm.specs.OfRealm.{IsOfRealm}
-use Rattle.mod_realm.proofs.Partings.{suffix_parted}
+use Rattle.mod_realm.proofs.Partings.{name_parted}
 
 -- ---- what is found
 
-found_one : (realms : List Realm) (d : ℕ) (lists : PairLists) (user : List ℕ) (one : Realm) → IsOfRealm realms d lists user one → found realms Suffix d lists ≡ Some (found_as user one)
-found_one realms d lists user one is =
-    let parts = suffix_parted d user is.written is.undelimited in
-    ap (λ b. cond b None (option_and_then (found_in realms Suffix d) (first_text user_name lists.request))) is.new
-    ∙ ap (option_and_then (found_in realms Suffix d)) is.name
+found_one : (realms : List Realm) (format : RealmFormat) (d : ℕ) (lists : PairLists) (user : List ℕ) (one : Realm) → IsOfRealm realms format d lists user one → found realms format d lists ≡ Some (found_as user one)
+found_one realms format d lists user one is =
+    let parts = name_parted format d user is.written is.undelimited in
+    ap (λ b. cond b None (option_and_then (found_in realms format d) (first_text user_name lists.request))) is.new
+    ∙ ap (option_and_then (found_in realms format d)) is.name
     ∙ ap (λ (p : List ℕ × List ℕ). option_map (found_as p.0) (realm_for realms p.1)) parts
     ∙ ap (λ (r : Option Realm). option_map (found_as user) (option_or r (realm_of realms (codes "DEFAULT")))) is.configured
 
@@ -117,12 +117,12 @@ module _ (one : Found) (lists : PairLists) (room : length lists.request ≤ 510)
 
 -- ---- the laws
 
-module _ (realms : List Realm) (d : ℕ) (lists : PairLists) (user : List ℕ) (one : Realm) (is : IsOfRealm realms d lists user one) where
+module _ (realms : List Realm) (format : RealmFormat) (d : ℕ) (lists : PairLists) (user : List ℕ) (one : Realm) (is : IsOfRealm realms format d lists user one) where
   abbrev done : PairLists × Code
-  done = named (found realms Suffix d lists) lists
+  done = named (found realms format d lists) lists
 
   found_done : done ≡ named (Some (found_as user one)) lists
-  found_done = ap (λ (f : Option Found). named f lists) (found_one realms d lists user one is)
+  found_done = ap (λ (f : Option Found). named f lists) (found_one realms format d lists user one is)
 
   by_strip : (b : Bool) → one.nostrip ≡ b → done ≡ cond b (with_realm (found_as user one) lists is.room, code.Ok) (with_both (found_as user one) lists is.room, code.Ok)
   by_strip true whole = found_done ∙ whole_done (found_as user one) lists is.room whole

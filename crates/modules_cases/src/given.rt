@@ -2,7 +2,7 @@
 
 use rad_dict::Dict;
 use rad_outside::NoMemory;
-use rad_pairs::{PairFault, print_pair, read_pairs};
+use rad_pairs::{PairFault, read_pairs};
 use rad_value::{ListName, Lists, Pair};
 use rad_words::{Code, Section};
 use std::alloc::Global;
@@ -60,26 +60,4 @@ pub fn put(
         Err(PairFault::NoMemory) => Err(NoMemory),
         Err(_) => Ok(false),
     }
-}
-
-/// Writes the pairs of a list from a place on, and commas between them.
-pub fn push_pairs(
-    alloc: Global,
-    to: &mut Vec<u8>,
-    lists: &Lists,
-    list: ListName,
-    from: u32,
-    dict: &Dict,
-) -> Result<(), NoMemory> {
-    for place in from..lists.len(list) {
-        if let Some(pair) = lists.get(list, place) {
-            if place > from {
-                to.extend_from_slice(b",")?;
-            }
-            to.push(b' ')?;
-            let text = print_pair(alloc, pair, dict)?;
-            to.extend_from_slice(text.as_slice())?;
-        }
-    }
-    Ok(())
 }

@@ -1,3 +1,4 @@
+use Rattle.std.proofs.Common.{refl}
 use Rattle.mod_realm.proofs.UsersNamed.{answers_ok, has_its_realm, has_its_user, stays_whole}
 use Rattle.mod_realm.proofs.laws.users_of_a_realm_are_named.Goals as goal
 
@@ -12,3 +13,6 @@ returns-clause-user c = has_its_user
 
 pub returns-clause-whole : goal.returns-clause-whole
 returns-clause-whole c = stays_whole
+
+pub returns-clause-preacct : goal.returns-clause-preacct
+returns-clause-preacct c realms format delimiter lists = refl
