@@ -18,7 +18,10 @@ pub use attr_reading::{AttrKind, attr_by_name};
 pub use fault::{NoValue, PairFault, ValueFault};
 pub use items::{Item, ItemList, PairOp};
 pub use laws::printed_pairs_are_read_back;
-pub use pair_reading::{read_pairs, read_plain_pairs};
+pub use pair_reading::{
+    is_missing, operator_of, read_pairs, read_plain_pairs, separated, value_behind,
+};
 pub use printing::{print_pair, print_value, put_plain};
 pub use rad_text::{Spot, address_of};
 pub use value_reading::{read_value, value_of};
+pub use words::{name_len, word_at};

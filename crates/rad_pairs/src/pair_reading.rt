@@ -22,7 +22,7 @@ use rad_value::Value;
 use std::alloc::Global;
 
 /// Whether no value stands at the front.
-fn is_missing(text: &[u8]) -> bool
+pub fn is_missing(text: &[u8]) -> bool
     ensures { result ≡ is_missing text.now }
 {
     match text {
@@ -32,7 +32,7 @@ fn is_missing(text: &[u8]) -> bool
 }
 
 /// The value of a word, where there is one, behind an operator.
-fn value_behind(
+pub fn value_behind(
     alloc: Global,
     op: PairOp,
     attr: AttrKind,
@@ -50,7 +50,7 @@ fn value_behind(
 }
 
 /// What follows a pair, from behind the blanks after it on.
-fn separated(text: &[u8]) -> Option<&[u8]>
+pub fn separated(text: &[u8]) -> Option<&[u8]>
     ensures exact { option_map (λ x. x.now) result ≡ separated text.now }
     ensures shorter { IfSome result (λ x. length x.now ≤ length text.now) }
 {
@@ -81,7 +81,7 @@ fn value_at<'a>(
 
 /// The operator of a pair at the front, and what follows it.
 #[tactic(auto, unfolding(crate::specs::PairParts::operator_of))]
-fn operator_of(text: &[u8]) -> Option<(PairOp, &[u8])>
+pub fn operator_of(text: &[u8]) -> Option<(PairOp, &[u8])>
     ensures exact { option_map (λ x. (x.0, x.1.now)) result ≡ operator_of text.now }
     ensures shorter { IfSome result (λ x. length x.1.now < length text.now) }
 {

@@ -8,7 +8,9 @@ mod configurations;
 mod dictionaries;
 mod faults;
 mod given_files;
+mod matches;
 mod questions;
+mod requests;
 mod runs;
 mod trees;
 mod turns;
@@ -18,8 +20,9 @@ mod values;
 use crate::base_look_ups::BaseCases;
 use crate::configurations::{ConfCases, ConfPathCases, ConfTextCases};
 use crate::dictionaries::{DictionaryCases, DictionaryLineCases};
+use crate::matches::{MatchCases, MeetCases};
 use crate::runs::RunCases;
-use crate::users_files::{UsersCases, UsersTextCases};
+use crate::users_files::{FilterTextCases, UsersCases, UsersTextCases};
 use shared_cases::{Form, Tally};
 use std::process::ExitCode;
 
@@ -63,6 +66,10 @@ fn judge_users(rt: HostRuntime, tally: &mut Tally) {
     tally.judge_file(rt, &mut UsersTextCases, Form::Rows, "users_texts.cases");
     tally.judge_file(rt, &mut UsersCases, Form::Blocks, "users_entries.cases");
     tally.judge_file(rt, &mut RunCases, Form::Blocks, "users_runs.cases");
+    tally.judge_file(rt, &mut MatchCases, Form::Blocks, "users_matches.cases");
+    let filters = "filter_texts.cases";
+    tally.judge_file(rt, &mut FilterTextCases, Form::Rows, filters);
+    tally.judge_file(rt, &mut MeetCases, Form::Blocks, "filter_values.cases");
 }
 
 fn judge_wrong_dictionaries(rt: HostRuntime, wrong: &mut Tally) {
@@ -97,4 +104,6 @@ fn judge_wrong_users(rt: HostRuntime, wrong: &mut Tally) {
         "wrong_users_entries.cases",
     );
     wrong.judge_file(rt, &mut RunCases, Form::Blocks, "wrong_users_runs.cases");
+    let matches = "wrong_users_matches.cases";
+    wrong.judge_file(rt, &mut MatchCases, Form::Blocks, matches);
 }

@@ -1,35 +1,52 @@
 //! What the module `files` does to the lists of a request.
 
+use crate::requests::scope_of;
 use crate::users_files::{users_fault, users_in};
 use crate::values::{push_attribute, push_value};
-use mod_files::Users;
-use rad_outside::{NoMemory, Octets};
-use rad_value::{ListName, Lists, Pair, Value};
-use rad_words::{AttrId, Space};
-use shared_cases::{Case, Subject, decimal, push_number};
+use mod_files::FilesModule;
+use rad_dict::Dict;
+use rad_outside::NoMemory;
+use rad_value::{ListName, Lists, Pair, Scope, Value};
+use shared_cases::{Case, Subject, push_number};
 use std::alloc::Global;
+use unlang_xlat::Xlat;
 
-/// The text of a file of `users` and a request, for the module's code and the lists that it leaves. The request has the
-/// User-Name `name`, or one of kind octets, `name_octets`, or none. Its control list and its reply list have so many
-/// pairs of one octet as `control` and `reply` say.
+/// The key of a module that sets none.
+const KEY: &[u8] = b"%{%{Stripped-User-Name}:-%{User-Name}}";
+
+/// The text of a file of `users`, an expansion that is the `key` and a request, for the module's code and the lists that
+/// it leaves.
 ///
-/// The module runs twice. What both runs give stands there once; where they differ, one stands behind the other.
+/// The module runs twice, if the case isn't to run `once`. What both runs give stands there once; where they differ, one
+/// stands behind the other.
 #[derive(Drop)]
 pub struct RunCases;
 
 impl Subject for RunCases {
     fn answer(&mut self, alloc: Global, case: &Case) -> Result<Vec<u8>, NoMemory> {
-        match users_in(alloc, case.text(b"users")) {
-            Ok(users) => run_twice(alloc, &users, case),
+        let dict = Dict::base(alloc)?;
+        let Ok(key) = Xlat::parse(alloc, case.find(b"key").unwrap_or(KEY), &dict) else {
+            return Ok(Vec::from_slice(alloc, b"no key")?);
+        };
+        match users_in(alloc, case.text(b"users"), &dict) {
+            Ok(users) => run_all(alloc, &FilesModule::new(users, key), case, &dict),
             Err(fault) => users_fault(alloc, fault),
         }
     }
 }
 
-fn run_twice(alloc: Global, users: &Users, case: &Case) -> Result<Vec<u8>, NoMemory> {
-    let mut lists = lists_of(alloc, case)?;
-    let mut first = run(alloc, users, &mut lists)?;
-    let second = run(alloc, users, &mut lists)?;
+fn run_all(
+    alloc: Global,
+    module: &FilesModule,
+    case: &Case,
+    dict: &Dict,
+) -> Result<Vec<u8>, NoMemory> {
+    let mut scope = scope_of(alloc, case, dict)?;
+    let mut first = run(alloc, module, &mut scope, dict)?;
+    if case.find(b"once").is_some() {
+        return Ok(first);
+    }
+    let second = run(alloc, module, &mut scope, dict)?;
     if first.as_slice() != second.as_slice() {
         first.extend_from_slice(second.as_slice())?;
     }
@@ -37,15 +54,24 @@ fn run_twice(alloc: Global, users: &Users, case: &Case) -> Result<Vec<u8>, NoMem
 }
 
 /// Runs the module, and shows its code and the lists.
-fn run(alloc: Global, users: &Users, lists: &mut Lists) -> Result<Vec<u8>, NoMemory> {
-    let code = users.authorize(alloc, lists)?;
+fn run(
+    alloc: Global,
+    module: &FilesModule,
+    scope: &mut Scope,
+    dict: &Dict,
+) -> Result<Vec<u8>, NoMemory> {
+    let code = module.authorize(alloc, scope, dict)?;
     let mut text = format!(in alloc; "{code:?}")?.into_bytes();
     text.extend_from_slice(b", control ")?;
-    push_list(alloc, &mut text, lists, ListName::Control)?;
+    push_list(alloc, &mut text, &scope.lists, ListName::Control)?;
     text.extend_from_slice(b", reply ")?;
-    push_list(alloc, &mut text, lists, ListName::Reply)?;
+    push_list(alloc, &mut text, &scope.lists, ListName::Reply)?;
     text.extend_from_slice(b", request ")?;
-    push_number(alloc, &mut text, u64::from(lists.len(ListName::Request)))?;
+    push_number(
+        alloc,
+        &mut text,
+        u64::from(scope.lists.len(ListName::Request)),
+    )?;
     Ok(text)
 }
 
@@ -75,43 +101,5 @@ fn push_pair(alloc: Global, to: &mut Vec<u8>, pair: &Pair) -> Result<(), NoMemor
     push_attribute(alloc, to, pair.attr)?;
     push_value(alloc, to, &pair.value)?;
     to.push(b';')?;
-    Ok(())
-}
-
-/// The lists before the module runs.
-fn lists_of(alloc: Global, case: &Case) -> Result<Lists, NoMemory> {
-    let mut lists = Lists::new(alloc);
-    let control = decimal(case.text(b"control"));
-    let reply = decimal(case.text(b"reply"));
-    push_bytes(&mut lists, ListName::Control, 25, control)?;
-    push_bytes(&mut lists, ListName::Reply, 33, reply)?;
-    if let Some(name) = case.find(b"name") {
-        let value = Value::Text(Octets::of(alloc, name)?);
-        push(&mut lists, ListName::Request, 1, value)?;
-    }
-    if let Some(name) = case.find(b"name_octets") {
-        let value = Value::Octets(Octets::of(alloc, name)?);
-        push(&mut lists, ListName::Request, 1, value)?;
-    }
-    Ok(lists)
-}
-
-/// Adds so many pairs of a standard attribute, whose values are one octet.
-fn push_bytes(lists: &mut Lists, list: ListName, number: u32, count: u64) -> Result<(), NoMemory> {
-    for _ in 0..count {
-        push(lists, list, number, Value::Byte(0))?;
-    }
-    Ok(())
-}
-
-/// Adds a pair of a standard attribute to a list of less than a thousand pairs.
-fn push(lists: &mut Lists, list: ListName, number: u32, value: Value) -> Result<(), NoMemory> {
-    if lists.len(list) < 1000 {
-        let attr = AttrId {
-            space: Space::Standard,
-            number,
-        };
-        lists.push(list, Pair { attr, value })?;
-    }
     Ok(())
 }

@@ -4,6 +4,7 @@ use crate::values::push_items;
 use mod_files::{Entry, Users, UsersFault};
 use rad_dict::Dict;
 use rad_outside::NoMemory;
+use rad_pairs::Spot;
 use shared_cases::{Case, Subject, after_word, decimal, push_number};
 use std::alloc::Global;
 
@@ -13,13 +14,19 @@ pub struct UsersTextCases;
 
 impl Subject for UsersTextCases {
     fn answer(&mut self, alloc: Global, case: &Case) -> Result<Vec<u8>, NoMemory> {
-        match users_in(alloc, case.cell(0)) {
-            Ok(users) => {
-                let count = users.len();
-                Ok(format!(in alloc; "Entries {count}")?.into_bytes())
-            }
-            Err(fault) => users_fault(alloc, fault),
-        }
+        let dict = Dict::base(alloc)?;
+        count_text(alloc, users_in(alloc, case.cell(0), &dict))
+    }
+}
+
+/// A filter file's text, for how many entries it has or its fault.
+#[derive(Drop)]
+pub struct FilterTextCases;
+
+impl Subject for FilterTextCases {
+    fn answer(&mut self, alloc: Global, case: &Case) -> Result<Vec<u8>, NoMemory> {
+        let dict = Dict::base(alloc)?;
+        count_text(alloc, filter_in(alloc, case.cell(0), &dict))
     }
 }
 
@@ -33,36 +40,68 @@ impl Subject for UsersCases {
         let Some(text) = case.find(b"users") else {
             return answer_to(alloc, &Users::new(alloc), question);
         };
-        match users_in(alloc, text) {
+        let dict = Dict::base(alloc)?;
+        match users_in(alloc, text, &dict) {
             Ok(users) => answer_to(alloc, &users, question),
             Err(fault) => users_fault(alloc, fault),
         }
     }
 }
 
-/// The users of a text, under the dictionary that needs no file. A text of more than 4 MiB isn't read, and has its
-/// fault at line 0.
-pub fn users_in(alloc: Global, text: &[u8]) -> Result<Users, UsersFault> {
-    let dict = Dict::base(alloc)?;
+/// Where a text that is too long to be read has its fault.
+const TOO_LONG: Spot = Spot { line: 0, column: 0 };
+
+/// The users of a text. A text of more than 4 MiB isn't read, and has its fault at line 0.
+pub fn users_in(alloc: Global, text: &[u8], dict: &Dict) -> Result<Users, UsersFault> {
     if text.len() > 4_194_304 {
-        return Err(UsersFault::NotBuilt(0));
+        return Err(UsersFault::BadEntry(TOO_LONG));
     }
-    Users::read(alloc, text, &dict)
+    Users::read(alloc, text, dict)
 }
 
-/// A fault of a users file as text.
+/// The entries of a filter file, under the same limit.
+pub fn filter_in(alloc: Global, text: &[u8], dict: &Dict) -> Result<Users, UsersFault> {
+    if text.len() > 4_194_304 {
+        return Err(UsersFault::BadEntry(TOO_LONG));
+    }
+    Users::read_filter(alloc, text, dict)
+}
+
+/// How many entries were read, or the fault.
+fn count_text(alloc: Global, read: Result<Users, UsersFault>) -> Result<Vec<u8>, NoMemory> {
+    match read {
+        Ok(users) => {
+            let count = users.len();
+            Ok(format!(in alloc; "Entries {count}")?.into_bytes())
+        }
+        Err(fault) => users_fault(alloc, fault),
+    }
+}
+
+/// A fault of a users file as text: its name, and the line and the column of its spot.
 pub fn users_fault(alloc: Global, fault: UsersFault) -> Result<Vec<u8>, NoMemory> {
     match fault {
-        UsersFault::NotBuilt(line) => Ok(format!(in alloc; "NotBuilt {line}")?.into_bytes()),
+        UsersFault::UnknownAttr(spot) => at_spot(alloc, b"UnknownAttr", spot),
+        UsersFault::BadOperator(spot) => at_spot(alloc, b"BadOperator", spot),
+        UsersFault::BadValue(spot) => at_spot(alloc, b"BadValue", spot),
+        UsersFault::BadPattern(spot) => at_spot(alloc, b"BadPattern", spot),
+        UsersFault::BadEntry(spot) => at_spot(alloc, b"BadEntry", spot),
         UsersFault::NoMemory => Err(NoMemory),
     }
 }
 
-/// What `len`, `get PLACE` or `find NAME` gives.
+/// A name, and a line and a column with a colon between them.
+fn at_spot(alloc: Global, name: &[u8], spot: Spot) -> Result<Vec<u8>, NoMemory> {
+    let mut text = Vec::from_slice(alloc, name)?;
+    text.push(b' ')?;
+    push_number(alloc, &mut text, u64::from(spot.line))?;
+    text.push(b':')?;
+    push_number(alloc, &mut text, u64::from(spot.column))?;
+    Ok(text)
+}
+
+/// What `len` or `get PLACE` gives.
 fn answer_to(alloc: Global, users: &Users, question: &[u8]) -> Result<Vec<u8>, NoMemory> {
-    if let Some(name) = after_word(question, b"find") {
-        return entry_text(alloc, users.find(name));
-    }
     if let Some(place) = after_word(question, b"get") {
         let place = u32::try_from(decimal(place)).unwrap_or(u32::MAX);
         return entry_text(alloc, users.get(place));

@@ -1,0 +1,87 @@
+-- The patterns of `=~` and `!~`, by the regular expressions of the crate `regex` over bytes, with its defaults: what one
+-- means is what its grammar reads in the text. After users(5).
+use Rattle.std.specs.Prelude.{◌≡◌, ◌≢◌, ◌⊎◌, ℕ, Bool, true, false, List, Option, Some, None, IsUtf8, if◌then◌else◌}
+use Rattle.regex.specs.declared.bytes.regex.Regex.{Regex}
+use Rattle.regex.specs.declared.error.Error.{Error}
+use Rattle.regex.specs.declared.error.Error.TheVariants.{OutOfMemory}
+use Rattle.regex.specs.Patterns.{Config, default_config}
+use Rattle.regex.specs.Bytes.{regex_source, regex_config, IsReadFromSource}
+use Rattle.regex.specs.Sources.{IsRefusal}
+use Rattle.regex.specs.Failures.{IsRightKind}
+use Rattle.rad_value.specs.declared.values.Value.{Value}
+use Rattle.rad_value.specs.declared.values.Value.TheVariants as value
+use Rattle.rad_pairs.specs.declared.items.Item.{Item}
+use Rattle.rad_pairs.specs.declared.items.PairOp.{PairOp}
+use Rattle.rad_pairs.specs.declared.items.PairOp.TheVariants as op
+
+-- The operators that look for a pattern.
+abbrev pub is_look : PairOp → Bool
+is_look op.Eq = false
+is_look op.Set = false
+is_look op.Append = false
+is_look op.Equal = false
+is_look op.Differs = false
+is_look op.Lt = false
+is_look op.Le = false
+is_look op.Gt = false
+is_look op.Ge = false
+is_look op.Match = true
+is_look op.NoMatch = true
+is_look op.Any = false
+is_look op.None = false
+
+-- The pattern of a value, where it is a text.
+abbrev pub pattern_in : Bool → Value → Option (List ℕ)
+pattern_in look (value.Text text) = if look then Some text else None
+pattern_in look (value.Octets octets) = None
+pattern_in look (value.Addr address) = None
+pattern_in look (value.Number number) = None
+pattern_in look (value.Date seconds) = None
+pattern_in look (value.Byte number) = None
+pattern_in look (value.Short number) = None
+
+-- The pattern of an item, where it looks for one.
+abbrev pub pattern_of : Item → Option (List ℕ)
+pattern_of item = pattern_in (is_look item.op) item.value
+
+-- The options of a pattern: the defaults of patterns over bytes.
+abbrev pub pattern_config : Config
+pattern_config = record default_config { utf8 = false }
+
+-- The compiled pattern is what the grammar reads in the text.
+pub record IsRegexOf (source : List ℕ) (regex : Regex) : Type 0 where
+  pub source_is : regex_source regex ≡ source
+  pub config_is : regex_config regex ≡ pattern_config
+  pub read : IsReadFromSource regex
+
+-- `regex` refuses the text, for another cause than memory.
+pub record IsRefusedByRegex (source : List ℕ) : Type 0 where
+  pub error : Error
+  pub not_memory : error ≢ OutOfMemory
+  pub by_grammar : IsRefusal pattern_config source error
+  pub kind : IsRightKind pattern_config source error
+
+-- What `regex` answers for a text.
+abbrev pub IsBuilt : List ℕ → Option Regex → Type 0
+IsBuilt source (Some regex) = IsRegexOf source regex
+IsBuilt source None = IsRefusedByRegex source
+
+-- A pattern is refused where it is no UTF-8, or where `regex` refuses it.
+abbrev pub IsRefused : List ℕ → Type 0
+IsRefused source = (¬ IsUtf8 source) ⊎ IsRefusedByRegex source
+
+-- It is accepted and compiled where it is UTF-8, and `regex` reads it.
+pub record IsCompiled (source : List ℕ) (regex : Regex) : Type 0 where
+  pub text : IsUtf8 source
+  pub regex_is : IsRegexOf source regex
+
+-- What is answered for a pattern.
+abbrev pub IsAnswerTo : List ℕ → Option Regex → Type 0
+IsAnswerTo source (Some regex) = IsCompiled source regex
+IsAnswerTo source None = IsRefused source
+
+-- The pattern of an item is compiled, where it has one.
+abbrev pub IsReady : Option (List ℕ) → Option Regex → Type 0
+IsReady None regex = regex ≡ None
+IsReady (Some source) None = ⊥
+IsReady (Some source) (Some regex) = IsCompiled source regex
