@@ -4,7 +4,7 @@ use Rattle.std.proofs.lemmas.Bool.{true≢false, ltb-true, ltb-false, eqb-true, 
 use Rattle.rad_sessions.specs.declared.session.Session.{Session}
 use Rattle.rad_sessions.specs.Listed.{AreInOrder, place_of, begun}
 use Rattle.rad_sessions.specs.Parts.{sum_after, part_of, is_in, AreParts, all_begun, joined, IsParted, lengths}
-use Rattle.rad_sessions.proofs.Order.{Above, Ordered, ordered, in_order, turned, above_filter, begun_first, begun_behind}
+use Rattle.rad_sessions.proofs.Order.{Above, Ordered, ordered, turned, above_filter, begun_first, begun_behind}
 
 -- The session stands in a part below this one.
 abbrev pub below : ℕ → Session → Bool

@@ -1,15 +1,14 @@
 -- What a change of a list does to its parts.
-use Rattle.std.proofs.Common.{◌≡◌, ℕ, zero, suc, ◌+◌, ◌<◌, ◌≤◌, Bool, true, false, cond, ◌&&◌, not, List, [], ◌∷◌, length, filter, Option, Some, None, is_some, slice_get, nat_le, eqb, refl, sym, ap, ◌∙◌, subst, arith, Ordering, Less, Equal, Greater, bytes_eq}
+use Rattle.std.proofs.Common.{◌≡◌, ℕ, zero, suc, ◌+◌, ◌<◌, ◌≤◌, Bool, true, false, cond, ◌&&◌, not, List, [], ◌∷◌, length, filter, Option, Some, None, is_some, slice_get, nat_le, refl, sym, ap, ◌∙◌, subst, arith, Ordering, Less, Equal, Greater, bytes_eq}
 use Rattle.std.specs.Ordering.{match_ordering, is_eq}
-use Rattle.std.proofs.lemmas.Bool.{true≢false, eqb-true, eqb-false, leb-false}
+use Rattle.std.proofs.lemmas.Bool.{true≢false, eqb-false, leb-false}
 use Rattle.std.proofs.lemmas.Slice.Eq.{bytes_eq-Decides}
-use Rattle.std.proofs.lemmas.Bool.Decides.{Decides-eqb}
 use Rattle.rad_sessions.specs.declared.session.Session.{Session}
 use Rattle.rad_sessions.specs.declared.change.Change.{Change}
 use Rattle.rad_sessions.specs.declared.change.Change.TheVariants.{Begin, Renew, End, Clear}
-use Rattle.rad_sessions.specs.Listed.{AreInOrder, after, begun, begun_again, count_of, ended, is_at, is_elsewhere, is_too_many, limit, place_cmp, place_of, renewed_at, session_at, with_framed}
+use Rattle.rad_sessions.specs.Listed.{after, begun, begun_again, count_of, ended, is_at, is_elsewhere, is_too_many, limit, place_cmp, place_of, renewed_at, session_at, with_framed}
 use Rattle.rad_sessions.specs.Keyed.{grown}
-use Rattle.rad_sessions.specs.Parts.{after_in, AreParts, begun_in, found_in, is_in, IsParted, joined, part_of, parts_after}
+use Rattle.rad_sessions.specs.Parts.{after_in, AreParts, found_in, is_in, IsParted, joined, part_of, parts_after}
 use Rattle.rad_sessions.proofs.Keying.{at_place}
 use Rattle.rad_sessions.proofs.Sizes.{ended_shorter, filter_shorter, found_there}
 use Rattle.rad_sessions.proofs.Order.{Above, Ordered, ordered, in_order, chain, above_filter, ordered_filter, ordered_ended, ordered_begun, begun_first, begun_behind, begun_there, ended_above, none_there, ended_none}

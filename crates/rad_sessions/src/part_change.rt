@@ -68,12 +68,7 @@ fn renewed(
 
 /// The part without the session at a place.
 #[tactic(auto, using(crate::proofs::Order::ended_none))]
-fn ended(
-    alloc: Global,
-    part: &Arc<Listed>,
-    nas: u32,
-    port: u32,
-) -> Result<Arc<Listed>, NoMemory>
+fn ended(alloc: Global, part: &Arc<Listed>, nas: u32, port: u32) -> Result<Arc<Listed>, NoMemory>
     ensures { IfOk result (λ next. arc_value next ≡ ended (nas, port) (arc_value part.now)) }
 {
     if part.at(nas, port).is_none() {

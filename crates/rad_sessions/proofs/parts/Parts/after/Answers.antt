@@ -1,6 +1,5 @@
-use Rattle.std.proofs.Common.{◌≡◌, [], map, length, sym, subst, ap, ◌∙◌, arith}
+use Rattle.std.proofs.Common.{[], map, sym, subst, ap, ◌∙◌}
 use Rattle.std.specs.Arc.{arc_value}
-use Rattle.rad_sessions.specs.Listed.{after}
 use Rattle.rad_sessions.specs.Parts.{IsParted, joined, parts_after}
 use Rattle.rad_sessions.proofs.Order.{ordered}
 use Rattle.rad_sessions.proofs.Parting.{changed, after_fits}

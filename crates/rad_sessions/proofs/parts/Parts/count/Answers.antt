@@ -12,7 +12,7 @@ count-requires c =
     let lists = map arc_value c.self.inside.parts.items in
     let number = part_of c.args.user.now in
     let got : slice_get c.self.inside.parts.items number ≡ Some c.in-Some.part.now =
-        ap₂ slice_get (sym c.deref.ensures.value) (sym c.part_of.ensures) ∙ slice_get_read c.deref.result.now (length c.deref.result.now) c.part_of.result c.in-Some.part.now refl c.in-Some.ensures.lookup.3.0 c.in-Some.ensures.lookup.1 in
+    ap₂ slice_get (sym c.deref.ensures.value) (sym c.part_of.ensures) ∙ slice_get_read c.deref.result.now (length c.deref.result.now) c.part_of.result c.in-Some.part.now refl c.in-Some.ensures.lookup.3.0 c.in-Some.ensures.lookup.1 in
     let there = slice_get-map arc_value c.self.inside.parts.items number ∙ ap (option_map arc_value) got in
     let fits = part_fits c.args.user.now lists (arc_value c.in-Some.part.now) c.self.invariant there in
     omega (arith, fits, ap length c.deref-in-Some.ensures, ap length c.self.view_is, c.requires)
@@ -22,7 +22,7 @@ returns-in-Some c =
     let lists = map arc_value c.self.inside.parts.items in
     let number = part_of c.args.user.now in
     let got : slice_get c.self.inside.parts.items number ≡ Some c.in-Some.part.now =
-        ap₂ slice_get (sym c.deref.ensures.value) (sym c.part_of.ensures) ∙ slice_get_read c.deref.result.now (length c.deref.result.now) c.part_of.result c.in-Some.part.now refl c.in-Some.ensures.lookup.3.0 c.in-Some.ensures.lookup.1 in
+    ap₂ slice_get (sym c.deref.ensures.value) (sym c.part_of.ensures) ∙ slice_get_read c.deref.result.now (length c.deref.result.now) c.part_of.result c.in-Some.part.now refl c.in-Some.ensures.lookup.3.0 c.in-Some.ensures.lookup.1 in
     let there = slice_get-map arc_value c.self.inside.parts.items number ∙ ap (option_map arc_value) got in
     c.count.ensures ∙ ap (count_of c.args.user.now) c.deref-in-Some.ensures
     ∙ part_counts c.args.user.now lists (arc_value c.in-Some.part.now) c.self.invariant there ∙ ap (count_of c.args.user.now) c.self.view_is

@@ -1,4 +1,4 @@
-use Rattle.std.proofs.Common.{◌≡◌, ◌+◌, ◌<◌, length, filter, sym, ap, ◌∙◌, arith}
+use Rattle.std.proofs.Common.{◌≡◌, ◌+◌, length, filter, ap, ◌∙◌, arith}
 use Rattle.std.specs.Arc.{arc_value}
 use Rattle.rad_sessions.specs.Parts.{is_in}
 use Rattle.rad_sessions.proofs.Merging.{one_longer, part_more, all_made}
