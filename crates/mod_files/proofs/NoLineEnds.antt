@@ -1,20 +1,15 @@
 -- Printed texts have no line end, so that each is a line.
-use Rattle.std.proofs.Common.{◌≡◌, ℕ, ◌+◌, ◌/◌, ◌%◌, Bool, true, false, not, cond, ◌||◌, eqb, List, [], ◌∷◌, ◌++◌, refl, sym, ap, ◌∙◌, arith}
+use Rattle.std.proofs.Common.{◌≡◌, ℕ, ◌+◌, ◌/◌, ◌%◌, Bool, true, false, cond, ◌||◌, eqb, List, [], ◌∷◌, refl, sym, ap, ◌∙◌, arith}
 use Rattle.std.specs.Int.{is_in_range}
-use Rattle.std.specs.List.{list_any, list_all, flat_map}
-use Rattle.std.proofs.lemmas.Bool.{true≢false, ne_eqb, not_from_false, and_from, and_parts, or_parts, or_from}
-use Rattle.std.proofs.lemmas.List.Folds.{list_any-append}
+use Rattle.std.specs.List.{flat_map}
+use Rattle.std.proofs.lemmas.Bool.{true≢false, or_from}
 use Rattle.rad_words.specs.declared.attributes.AttrId.{AttrId}
 use Rattle.rad_value.specs.declared.values.Value.{Value}
 use Rattle.rad_value.specs.declared.values.Value.TheVariants as value
-use Rattle.rad_value.specs.declared.values.Pair.{Pair}
 use Rattle.rad_dict.specs.Definitions.{Definitions}
-use Rattle.rad_pairs.specs.ValueText.{escaped, quoted, attr_text, value_text, pair_text}
-use Rattle.rad_dict.specs.NameForms.{is_name_octet}
+use Rattle.rad_pairs.specs.ValueText.{escaped, quoted, value_text}
 use Rattle.rad_dict.specs.EveryDictionary.{IsDictionary}
-use Rattle.rad_value.specs.Kinds.{kind_of_value}
-use Rattle.rad_pairs.specs.ReadingBack.{IsOfKind, InRange}
-use Rattle.rad_pairs.proofs.Attributes.{attr_again}
+use Rattle.rad_pairs.specs.ReadingBack.{InRange}
 use Rattle.rad_pairs.proofs.Values.{IsNoText, value_again}
 use Rattle.rad_text.proofs.LineEnds.{ends_line, ends_none, has_line_end, none_joined}
 use Rattle.rad_dict.proofs.NameWords.{none_in_name}

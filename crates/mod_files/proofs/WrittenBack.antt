@@ -1,10 +1,8 @@
 -- Entries that are written are read back.
-use Rattle.std.proofs.Common.{◌≡◌, ℕ, ◌+◌, Bool, true, false, ◌||◌, eqb, List, [], ◌∷◌, ◌++◌, length, map, Option, Some, None, refl, sym, ap, append_assoc, ◌∙◌, arith}
+use Rattle.std.proofs.Common.{◌≡◌, ℕ, ◌+◌, true, false, eqb, List, [], ◌∷◌, ◌++◌, length, map, Option, Some, None, refl, sym, ap, append_assoc, ◌∙◌, arith}
 use Rattle.std.specs.List.{list_all}
 use Rattle.std.proofs.lemmas.Bool.{true≢false, ne_eqb, and_parts, or_from}
 use Rattle.std.proofs.lemmas.List.{append-nil, map-append}
-use Rattle.rad_words.specs.declared.attributes.AttrId.{AttrId}
-use Rattle.rad_value.specs.declared.values.Value.{Value}
 use Rattle.rad_dict.specs.Definitions.{Definitions}
 use Rattle.rad_dict.specs.NameForms.{is_name_octet}
 use Rattle.rad_dict.specs.EveryDictionary.{IsDictionary}
@@ -28,7 +26,7 @@ use Rattle.mod_files.specs.declared.fault.LineFault.{LineFault}
 use Rattle.mod_files.specs.Lines.{is_passed, is_indented, is_quoted, head_of}
 use Rattle.mod_files.specs.ItemParts.{solid}
 use Rattle.mod_files.specs.Items.{items_of}
-use Rattle.mod_files.specs.Reading.{Read, with_replies, replied, begun, after_line, after_lines, drafts_of}
+use Rattle.mod_files.specs.Reading.{with_replies, replied, after_line, after_lines, drafts_of}
 use Rattle.mod_files.specs.Rows.{items_in, entry_of}
 use Rattle.mod_files.specs.Written.{op_text, value_written, item_text, items_text, head_text, replies_text, entries_text, numbered, IsOfKind, IsPattern, FitsBehind, IsWritableItem, IsWritable, AreWritable, AreBack}
 use Rattle.mod_files.proofs.NoLineEnds.{none_quoted, none_in_value}

@@ -1,5 +1,5 @@
 -- Items that are written are read back.
-use Rattle.std.proofs.Common.{◌≡◌, ℕ, zero, suc, ◌+◌, ◌<◌, ◌≤◌, Bool, true, false, ◌||◌, ◌&&◌, eqb, List, [], ◌∷◌, ◌++◌, length, map, Option, Some, None, Result, Ok, Err, refl, sym, ap, append_assoc, ◌∙◌, arith}
+use Rattle.std.proofs.Common.{◌≡◌, ℕ, zero, suc, ◌+◌, ◌≤◌, Bool, true, false, List, [], ◌∷◌, ◌++◌, length, Option, Some, None, Result, Ok, refl, sym, ap, append_assoc, ◌∙◌, arith}
 use Rattle.std.specs.List.{list_all, AllByRecursion}
 use Rattle.std.proofs.lemmas.Bool.{true≢false, ne_eqb, and_parts}
 use Rattle.std.proofs.lemmas.List.{take_at, drop_at, length-append}
@@ -41,7 +41,7 @@ use Rattle.mod_files.specs.declared.fault.Wrong.TheVariants.{BadValue}
 use Rattle.mod_files.specs.declared.fault.LineFault.{LineFault}
 use Rattle.mod_files.specs.Forms.{takes}
 use Rattle.mod_files.specs.ItemParts.{begins_comment, solid, operator_at, value_at}
-use Rattle.mod_files.specs.Items.{item_at, part_at, placed, listed, items_of}
+use Rattle.mod_files.specs.Items.{item_at, part_at, listed, items_of}
 use Rattle.mod_files.specs.Rows.{items_in}
 use Rattle.mod_files.specs.Written.{op_text, value_written, item_text, items_text, IsOfKind, IsPattern, IsBare, FitsBehind, IsWritableItem}
 

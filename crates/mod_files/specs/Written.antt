@@ -1,9 +1,8 @@
 -- Entries that are written as a users file: each a line with its name in double quotes and its check items, and an indented
 -- line with its reply items, every item with a comma behind it. After users(5).
-use Rattle.std.specs.Prelude.{◌≡◌, ℕ, ◌+◌, Bool, true, List, [], ◌∷◌, ◌++◌, map, Some, None, codes}
+use Rattle.std.specs.Prelude.{◌≡◌, ℕ, ◌+◌, true, List, [], ◌∷◌, ◌++◌, map, Some, None, codes}
 use Rattle.std.specs.List.{AllByRecursion}
 use Rattle.rad_words.specs.declared.attributes.Kind.{Kind}
-use Rattle.rad_value.specs.declared.values.Value.{Value}
 use Rattle.rad_value.specs.declared.values.Value.TheVariants as value
 use Rattle.rad_value.specs.Kinds.{kind_of_value}
 use Rattle.rad_dict.specs.Definitions.{Definitions}
