@@ -9,7 +9,7 @@ use Rattle.rad_dict.specs.Definitions.{Definitions}
 use Rattle.rad_world.specs.Effects.{Effect}
 use Rattle.rad_world.specs.World.{WorldState}
 use Rattle.rad_world.proofs.Joining.{gains_nothing}
-use Rattle.mod_base.specs.Situation.{Situation, situation_in}
+use Rattle.mod_base.specs.Situation.{situation_in}
 use Rattle.mod_base.specs.Reaching.{Reaches}
 use Rattle.mod_files.specs.declared.files.FilesModule.{FilesModule}
 use Rattle.mod_files.specs.Module.{authorized, does}

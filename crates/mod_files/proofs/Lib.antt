@@ -7,3 +7,6 @@ pub mod Outcomes
 pub mod Searching
 pub mod OperatorLaws
 pub mod Calls
+pub mod NoLineEnds
+pub mod WrittenItems
+pub mod WrittenBack

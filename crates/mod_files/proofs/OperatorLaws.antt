@@ -1,5 +1,5 @@
 -- What an operator relies on in a users file.
-use Rattle.std.proofs.Common.{◌≡◌, ℕ, Bool, true, false, cond, List, [], ◌∷◌, ◌++◌, Option, Some, None, refl, sym, ap, ◌∙◌}
+use Rattle.std.proofs.Common.{◌≡◌, ℕ, Bool, true, false, cond, List, [], ◌∷◌, ◌++◌, Option, Some, None, refl, ap, ◌∙◌}
 use Rattle.std.specs.List.{cons_option}
 use Rattle.std.specs.Option.{option_map}
 use Rattle.rad_value.specs.declared.edits.Edit.{Edit}
@@ -13,7 +13,7 @@ use Rattle.rad_pairs.specs.declared.items.Item.{Item}
 use Rattle.mod_files.specs.declared.entry.Entry.{Entry}
 use Rattle.mod_files.specs.declared.row.Row.{Row}
 use Rattle.mod_files.specs.Fits.{fits}
-use Rattle.mod_files.specs.Files.{is_fall_through, edit_op, edit_of, edits_of, entry_edits, all_edits, all_tried, falls_through, entries, done_by, files_done}
+use Rattle.mod_files.specs.Files.{is_fall_through, edit_op, edits_of, entry_edits, all_edits, all_tried, falls_through, entries, done_by, files_done}
 
 -- ---- the request stays
 

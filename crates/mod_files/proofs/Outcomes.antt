@@ -1,15 +1,14 @@
 -- The entries that match, one row at a time.
-use Rattle.std.proofs.Common.{◌≡◌, ℕ, Bool, true, false, cond, ◌||◌, List, [], ◌∷◌, ◌++◌, refl, sym, ap, ◌∙◌}
+use Rattle.std.proofs.Common.{◌≡◌, ℕ, Bool, true, false, cond, ◌||◌, List, [], ◌∷◌, refl, ap, ◌∙◌}
 use Rattle.rad_words.specs.declared.codes.Code.{Code}
 use Rattle.rad_words.specs.declared.codes.Code.TheVariants as code
 use Rattle.rad_value.specs.PairLists.{PairLists}
 use Rattle.rad_dict.specs.Definitions.{Definitions}
-use Rattle.mod_files.specs.declared.entry.Entry.{Entry}
 use Rattle.mod_files.specs.declared.row.Row.{Row}
 use Rattle.mod_files.specs.declared.search.Next.{Next}
 use Rattle.mod_files.specs.declared.search.Next.TheVariants as next
 use Rattle.mod_files.specs.Fits.{fits}
-use Rattle.mod_files.specs.Files.{entry_edits, all_edits, all_tried, falls_through, entries, code_of, has_any, done_by, outcome}
+use Rattle.mod_files.specs.Files.{entry_edits, all_edits, all_tried, falls_through, entries, code_of, done_by, outcome}
 use Rattle.mod_files.specs.Search.{after_entry, row_tried}
 use Rattle.mod_files.proofs.Trials.{all_tried-append}
 

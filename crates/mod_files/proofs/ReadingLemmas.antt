@@ -38,7 +38,7 @@ pub ends : (form : Form) (number : ℕ) (drafts next : List Draft) (wrong : Opti
 ends form number drafts next None line more dict some e = absurd (false≢true some)
 ends form number drafts next (Some wrong) line more dict some e = ap (by_line form number more dict) e ∙ sym (after_lines-cons form number drafts line more dict)
 
-no_lines : (form : Form) (number : ℕ) (drafts : List Draft) (dict : Definitions) → after_lines form number drafts (lines_of []) dict ≡ (drafts, None)
+pub no_lines : (form : Form) (number : ℕ) (drafts : List Draft) (dict : Definitions) → after_lines form number drafts (lines_of []) dict ≡ (drafts, None)
 unfolding after_lines lines_of
 no_lines form number drafts dict = refl
 

@@ -1,5 +1,5 @@
 -- Items and entries whose patterns are compiled, one at a time, from the front.
-use Rattle.std.proofs.Common.{◌≡◌, ℕ, suc, List, [], ◌∷◌, ◌++◌, map, reverse, Option, Some, None, refl, sym, ap, ◌∙◌, inl, inr, append_assoc, subst, length, arith}
+use Rattle.std.proofs.Common.{◌≡◌, ℕ, suc, List, [], ◌∷◌, ◌++◌, reverse, Option, Some, refl, sym, ap, ◌∙◌, inl, inr, append_assoc, subst, length, arith}
 use Rattle.std.proofs.lemmas.List.{map-append, reverse-append, reverse-reverse, append-nil}
 use Rattle.regex.specs.declared.bytes.regex.Regex.{Regex}
 use Rattle.rad_text.specs.declared.spots.Spot.{Spot}
@@ -17,7 +17,7 @@ use Rattle.mod_files.specs.Reading.{Read, drafts_of}
 use Rattle.mod_files.specs.Users.{fault_of, IsWrong, IsFaultOf}
 use Rattle.rad_dict.specs.Definitions.{Definitions}
 use Rattle.mod_files.specs.Patterns.{pattern_of, IsReady}
-use Rattle.mod_files.specs.Rows.{items_in, entry_of, AreReady, IsReadyOf, IsRowOf, AreRows, placed_in, all_placed, IsFirstRefused, AreAccepted, RefusedBy, RefusedIn}
+use Rattle.mod_files.specs.Rows.{items_in, AreReady, IsReadyOf, IsRowOf, AreRows, placed_in, all_placed, IsFirstRefused, AreAccepted, RefusedBy, RefusedIn}
 
 turned : {X : Type 0} (unread new : List X) (x : X) → unread ≡ new ++ x ∷ [] → reverse unread ≡ x ∷ reverse new
 turned unread new x e = ap reverse e ∙ reverse-append new (x ∷ [])

@@ -1,9 +1,9 @@
 -- The entries of a key, found by the places of their names.
-use Rattle.std.proofs.Common.{◌≡◌, ℕ, zero, suc, ◌<◌, ◌≤◌, Bool, true, false, cond, ◌||◌, ◌&&◌, eqb, List, [], ◌∷◌, map, drop, Option, Some, None, codes, refl, sym, ap, subst, ◌∙◌, arith, rules, eq-eqb}
+use Rattle.std.proofs.Common.{◌≡◌, ℕ, zero, suc, ◌<◌, ◌≤◌, Bool, true, false, cond, eqb, List, [], ◌∷◌, map, drop, Option, Some, None, codes, refl, sym, ap, subst, ◌∙◌, arith, rules, eq-eqb}
 use Rattle.std.specs.Prelude.{nat_lt}
 use Rattle.std.specs.List.{slice_get}
 use Rattle.std.specs.Str.{bytes_eq}
-use Rattle.std.proofs.lemmas.Bool.{true≢false, false≢true}
+use Rattle.std.proofs.lemmas.Bool.{true≢false}
 use Rattle.std.proofs.lemmas.Slice.Eq.{bytes_eq-Decides}
 use Rattle.rad_index.specs.Places.{places_from, places_of}
 use Rattle.rad_value.specs.declared.values.Pair.{Pair}
@@ -13,7 +13,7 @@ use Rattle.rad_words.specs.declared.codes.Code.{Code}
 use Rattle.mod_files.specs.declared.row.Row.{Row}
 use Rattle.mod_files.specs.declared.search.Next.{Next}
 use Rattle.mod_files.specs.declared.search.Next.TheVariants as next
-use Rattle.mod_files.specs.Fits.{is_for, are_fit, fits}
+use Rattle.mod_files.specs.Fits.{fits}
 use Rattle.mod_files.specs.Files.{code_of, outcome, files_done}
 use Rattle.mod_files.specs.Search.{name_key, row_key, default_key, next_place, row_tried}
 use Rattle.mod_files.proofs.Outcomes.{after_next, outcome-cons, outcome-passed}

@@ -1,9 +1,9 @@
 -- What the module `files` does in authorize: the check items and the reply items of the entries that match are done to the
 -- control list and the reply list. After users(5) and the manual page rlm_files(5); that it stops at a full list is this
 -- project's own.
-use Rattle.std.specs.Prelude.{ℕ, Bool, true, false, not, ◌&&◌, ◌||◌, ◌==◌, List, [], ◌∷◌, ◌++◌, Option, Some, None, filter, filter_map, codes, if◌then◌else◌}
+use Rattle.std.specs.Prelude.{ℕ, Bool, true, false, not, ◌&&◌, ◌||◌, List, [], ◌∷◌, ◌++◌, Option, Some, None, filter_map, codes, if◌then◌else◌}
 use Rattle.std.specs.Option.{option_map}
-use Rattle.std.specs.List.{list_any, flat_map}
+use Rattle.std.specs.List.{list_any}
 use Rattle.std.specs.Str.{str_eq_ignore_ascii_case}
 use Rattle.rad_words.specs.declared.attributes.AttrId.{AttrId}
 use Rattle.rad_words.specs.declared.attributes.Space.TheVariants.{Internal}

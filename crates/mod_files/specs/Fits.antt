@@ -7,13 +7,12 @@ use Rattle.std.specs.Str.{bytes_eq}
 use Rattle.regex.specs.declared.bytes.regex.Regex.{Regex}
 use Rattle.regex.specs.Patterns.{find}
 use Rattle.regex.specs.Bytes.{regex_pattern}
-use Rattle.rad_words.specs.declared.attributes.AttrId.{AttrId}
 use Rattle.rad_value.specs.declared.values.Value.{Value}
 use Rattle.rad_value.specs.declared.values.Pair.{Pair}
 use Rattle.rad_value.specs.declared.comparison.Cmp.{Cmp}
 use Rattle.rad_value.specs.declared.comparison.Cmp.TheVariants as cmp
 use Rattle.rad_value.specs.Comparison.{comparison}
-use Rattle.rad_value.specs.Pairs.{is_of, first_value, values_of}
+use Rattle.rad_value.specs.Pairs.{is_of, first_value}
 use Rattle.rad_dict.specs.Definitions.{Definitions}
 use Rattle.rad_pairs.specs.declared.items.Item.{Item}
 use Rattle.rad_pairs.specs.declared.items.PairOp.{PairOp}

@@ -1,5 +1,5 @@
 -- The operators that an item of a users file takes where it stands, after users(5) and the manual page rlm_attr_filter(5).
-use Rattle.std.specs.Prelude.{Bool, true, false, ◌||◌}
+use Rattle.std.specs.Prelude.{Bool, true, false}
 use Rattle.rad_words.specs.declared.attributes.Space.{Space}
 use Rattle.rad_words.specs.declared.attributes.Space.TheVariants.{Standard, Vendor, Internal}
 use Rattle.rad_pairs.specs.declared.items.PairOp.{PairOp}

@@ -1,12 +1,11 @@
 -- The module `files` keeps its frame. This project's own.
 use Rattle.std.specs.Prelude.{filter}
-use Rattle.std.proofs.Common.{◌≡◌, ℕ, Bool, true, false, not, cond, ◌||◌, ◌&&◌, Option, Some, None, List, [], ◌∷◌, ◌++◌, length, refl, sym, ap, ◌∙◌}
+use Rattle.std.proofs.Common.{◌≡◌, ℕ, Bool, true, false, not, cond, ◌||◌, ◌&&◌, Some, None, List, [], ◌∷◌, ◌++◌, length, refl, sym, ap, ◌∙◌}
 use Rattle.std.specs.List.{list_any, AllByRecursion}
-use Rattle.std.proofs.lemmas.Bool.{true≢false, false≢true}
+use Rattle.std.proofs.lemmas.Bool.{false≢true}
 use Rattle.std.proofs.lemmas.List.{append-nil}
 use Rattle.std.proofs.Math.Seq.{take-nil}
 use Rattle.rad_words.specs.declared.attributes.AttrId.{AttrId}
-use Rattle.rad_words.specs.declared.codes.Code.{Code}
 use Rattle.rad_words.specs.declared.sections.Section.{Section}
 use Rattle.rad_words.specs.Attribute.{same_attr}
 use Rattle.rad_value.specs.declared.values.Pair.{Pair}
@@ -23,7 +22,6 @@ use Rattle.mod_base.specs.Situation.{Situation}
 use Rattle.mod_base.specs.Meaning.{outside, IsLawful}
 use Rattle.mod_base.proofs.Frames.{filter_within}
 use Rattle.unlang_xlat.specs.Texts.{expanded}
-use Rattle.mod_files.specs.declared.entry.Entry.{Entry}
 use Rattle.mod_files.specs.declared.row.Row.{Row}
 use Rattle.mod_files.specs.declared.files.FilesModule.{FilesModule}
 use Rattle.mod_files.specs.Fits.{fits}

@@ -11,3 +11,4 @@ pub mod Files
 pub mod Search
 pub mod Module
 pub mod Framed
+pub mod Written

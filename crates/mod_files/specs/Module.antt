@@ -1,5 +1,5 @@
 -- What the module `files` means. After the manual page rlm_files(5).
-use Rattle.std.specs.Prelude.{ℕ, Bool, true, false, List, [], ◌∷◌}
+use Rattle.std.specs.Prelude.{Bool, true, false, List, [], ◌∷◌}
 use Rattle.rad_words.specs.declared.attributes.AttrId.{AttrId}
 use Rattle.rad_words.specs.declared.codes.Code.{Code}
 use Rattle.rad_value.specs.declared.scope.Scope.{Scope}

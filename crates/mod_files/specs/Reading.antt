@@ -2,7 +2,6 @@
 -- users(5).
 use Rattle.std.specs.Prelude.{ℕ, ◌+◌, Bool, true, List, [], ◌∷◌, ◌++◌, length, Option, Some, None, if◌then◌else◌}
 use Rattle.rad_dict.specs.Definitions.{Definitions}
-use Rattle.rad_text.specs.declared.spots.Spot.{Spot}
 use Rattle.mod_files.specs.declared.form.Form.{Form}
 use Rattle.mod_files.specs.declared.form.Form.TheVariants.{Check}
 use Rattle.mod_files.specs.declared.placed.Placed.{Placed}

@@ -1,5 +1,5 @@
 -- Entries with their patterns compiled, and the first pattern of a users file that is refused. This project's own.
-use Rattle.std.specs.Prelude.{◌≡◌, ◌⊎◌, ℕ, List, [], ◌∷◌, ◌++◌, map, Option, Some, None}
+use Rattle.std.specs.Prelude.{◌≡◌, ◌⊎◌, ℕ, List, [], ◌∷◌, ◌++◌, map, Option, Some}
 use Rattle.std.specs.List.{AllByRecursion}
 use Rattle.regex.specs.declared.bytes.regex.Regex.{Regex}
 use Rattle.rad_text.specs.declared.spots.Spot.{Spot}

@@ -1,7 +1,6 @@
 -- The places at which entries of a key may stand, found by keys of names. This project's own; names go by the hash of
 -- Fowler, Noll and Vo, with a sum.
 use Rattle.std.specs.Prelude.{ℕ, ◌+◌, ◌*◌, ◌^◌, ◌%◌, Bool, true, false, List, [], ◌∷◌, nat_lt, Option, Some, None, codes, if◌then◌else◌}
-use Rattle.rad_words.specs.declared.codes.Code.{Code}
 use Rattle.rad_words.specs.declared.codes.Code.TheVariants as code
 use Rattle.rad_value.specs.PairLists.{PairLists}
 use Rattle.rad_dict.specs.Definitions.{Definitions}

@@ -1,6 +1,6 @@
 -- The users of a users file, or its first fault: where no pattern is refused before it, what is wrong first. After
 -- users(5).
-use Rattle.std.specs.Prelude.{◌≡◌, ℕ, List, Option, Some, None}
+use Rattle.std.specs.Prelude.{◌≡◌, ℕ, List, Some, None}
 use Rattle.rad_dict.specs.Definitions.{Definitions}
 use Rattle.mod_files.specs.declared.form.Form.{Form}
 use Rattle.mod_files.specs.declared.row.Row.{Row}

@@ -3,8 +3,8 @@
 ghost use Rattle.std.specs.Prelude.{◌≡◌, IfOk};
 ghost use Rattle.mod_files.specs.Reading.{with_replies};
 
-use crate::PlacedList;
 use crate::fault::LineFault;
+use crate::placed::PlacedList;
 use rad_outside::{NoMemory, Octets};
 
 /// An entry of a users file, each of its items with the place of its value.

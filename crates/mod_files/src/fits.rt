@@ -9,7 +9,8 @@ ghost use Rattle.rad_value.specs.Pairs.{first_value};
 ghost use Rattle.rad_pairs.specs.ValueText.{plain_text};
 ghost use Rattle.mod_files.specs.Fits.{compares, matches, misses, is_met, first_meets, is_equal_to, is_fit, regex_at, are_fit, is_for, fits, check_fits, reply_met};
 
-use crate::{Entry, Row};
+use crate::Entry;
+use crate::row::Row;
 use rad_dict::Dict;
 use rad_outside::NoMemory;
 use rad_pairs::{Item, ItemList, PairOp, put_plain};

@@ -9,7 +9,7 @@ ghost use Rattle.mod_files.specs.Items.{item_at, spot_in, fault_in, placed, item
 
 use crate::fault::{LineFault, Wrong};
 use crate::form::{Form, takes};
-use crate::{Placed, PlacedList};
+use crate::placed::{Placed, PlacedList};
 use rad_dict::Dict;
 use rad_outside::NoMemory;
 use rad_pairs::{

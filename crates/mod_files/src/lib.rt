@@ -1,3 +1,9 @@
+//! Users files, after users(5), and filter files: their entries, or the first fault at its line and column; which entries
+//! match a request; and what the module `files` does by them.
+//! The one model is `Users`, seen as the list of its entries in file order, each with its patterns compiled. The entries that
+//! match are those of `entries`, in order, each tried in the lists that those before it left; the code finds them by an index
+//! of names.
+//! Above it stand the sites whose authorize sections run `files`, and filters.
 #![tactic(auto)]
 
 mod draft;
@@ -17,14 +23,11 @@ mod row;
 mod search;
 mod users;
 
-pub use draft::Draft;
 pub use entry::Entry;
 pub use fault::UsersFault;
 pub use files::FilesModule;
 pub use laws::{
     entries_that_do_not_match_change_nothing, requests_stay_as_they_came,
-    the_first_entry_without_fall_through_decides,
+    the_first_entry_without_fall_through_decides, written_users_are_read_back,
 };
-pub use placed::{Placed, PlacedList};
-pub use row::Row;
 pub use users::Users;

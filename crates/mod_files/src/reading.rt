@@ -6,12 +6,12 @@ ghost use Rattle.mod_files.specs.Lines.{head_of};
 ghost use Rattle.mod_files.specs.Items.{items_of};
 ghost use Rattle.mod_files.specs.Reading.{bad_entry, replied, begun, after_line, drafts_of};
 
-use crate::PlacedList;
 use crate::draft::{Draft, Drafts};
 use crate::fault::LineFault;
 use crate::form::Form;
 use crate::items::{Cut, items_of};
 use crate::lines::{head_of, is_indented, is_passed};
+use crate::placed::PlacedList;
 use rad_dict::Dict;
 use rad_outside::NoMemory;
 use rad_pairs::Spot;

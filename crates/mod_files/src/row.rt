@@ -4,9 +4,10 @@ ghost use Rattle.std.specs.Prelude.{◌≡◌, ◌++◌, ◌∷◌, [], length, 
 ghost use Rattle.mod_files.specs.Patterns.{pattern_of, IsReady};
 ghost use Rattle.mod_files.specs.Rows.{AreReady, IsRowOf, AreRows, RefusedBy, RefusedIn, placed_in, all_placed, IsReadyOf};
 
+use crate::Entry;
 use crate::draft::Draft;
 use crate::patterns::{compiled, pattern_of};
-use crate::{Entry, Placed, PlacedList};
+use crate::placed::{Placed, PlacedList};
 use rad_outside::NoMemory;
 use rad_pairs::{Item, ItemList, Spot};
 use rad_text::ReadError;

@@ -4,9 +4,9 @@ ghost use Rattle.std.specs.Prelude.{◌≡◌, ◌+◌, ◌<◌, length, map, If
 ghost use Rattle.std.specs.Option.{option_map};
 ghost use Rattle.mod_files.specs.Search.{key_with, octets_key, name_key, row_key, default_key, next_place, row_tried};
 
-use crate::Row;
 use crate::edits::{do_entry, falls_through};
 use crate::fits::fits;
+use crate::row::Row;
 use rad_dict::Dict;
 use rad_index::Index;
 use rad_outside::NoMemory;

@@ -1,8 +1,7 @@
-use Rattle.std.proofs.Common.{◌≡◌, true, List, [], ◌∷◌, ◌++◌, length, Option, sym, ap, ◌∙◌}
+use Rattle.std.proofs.Common.{◌≡◌, List, [], ◌∷◌, ◌++◌, Option, sym, ap, ◌∙◌}
 use Rattle.mod_files.specs.declared.draft.Draft.{Draft}
 use Rattle.mod_files.specs.declared.placed.Placed.{Placed}
 use Rattle.mod_files.specs.declared.fault.LineFault.{LineFault}
-use Rattle.mod_files.specs.Items.{items_of}
 use Rattle.mod_files.specs.Reading.{replied, with_replies}
 use Rattle.mod_files.proofs.ReadingLemmas.{replied-push}
 use Rattle.mod_files.proofs.reading.add_replies.Goals as goal

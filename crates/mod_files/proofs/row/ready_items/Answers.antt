@@ -1,5 +1,4 @@
-use Rattle.std.proofs.Common.{◌≡◌, ◌++◌, ◌∷◌, [], sym, ap, ◌∙◌}
-use Rattle.mod_files.proofs.RowLemmas.{items_start, items_go_on, items_end, items_done}
+use Rattle.mod_files.proofs.RowLemmas.{items_start, items_go_on, items_end}
 use Rattle.mod_files.proofs.row.ready_items.Goals as goal
 
 pub loop-placed-init : goal.loop-placed-init

@@ -1,4 +1,4 @@
-use Rattle.std.proofs.Common.{◌≡◌, ◌++◌, ◌∷◌, [], sym, ap, ◌∙◌, rules}
+use Rattle.std.proofs.Common.{◌≡◌, [], rules}
 use Rattle.mod_files.proofs.RowLemmas.{rows_start, rows_go_on, rows_end, rows_done, rows_length}
 use Rattle.mod_files.proofs.row.rows_of.Goals as goal
 

@@ -1,4 +1,4 @@
-use Rattle.std.proofs.Common.{◌≡◌, Bool, true, map, Some, None, sym, ap, ◌∙◌, rules}
+use Rattle.std.proofs.Common.{◌≡◌, Bool, true, map, sym, ap, ◌∙◌, rules}
 use Rattle.mod_files.specs.declared.search.Next.TheVariants as next
 use Rattle.mod_files.specs.Files.{code_of, files_done}
 use Rattle.mod_files.specs.Search.{name_key, row_key, default_key}

@@ -1,4 +1,3 @@
-use Rattle.std.proofs.Common.{◌≡◌, Some}
 use Rattle.mod_files.proofs.RowLemmas.{fault_found}
 use Rattle.mod_files.proofs.users.Users.read_form.Goals as goal
 
