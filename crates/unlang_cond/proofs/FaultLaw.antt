@@ -1,9 +1,8 @@
 -- The offset of a fault: what stands there.
-use Rattle.std.proofs.Common.{◌≡◌, ℕ, suc, ◌-◌, min, ◌<◌, ◌^◌, true, false, eqb, List, [], ◌∷◌, ◌++◌, length, Option, Some, None, slice_index, inl, inr, refl, sym, ap, subst, ◌∙◌, length-append, arith}
+use Rattle.std.proofs.Common.{◌≡◌, ℕ, ◌-◌, ◌<◌, ◌^◌, true, eqb, List, [], ◌∷◌, ◌++◌, length, Option, Some, None, slice_index, inl, inr, refl, sym, ap, subst, ◌∙◌, length-append, arith}
 use Rattle.std.proofs.lemmas.List.{append-nil}
 use Rattle.std.specs.Option.{option_map}
-use Rattle.std.specs.Prelude.{◌⊎◌, unwrap_or}
-use Rattle.rad_text.specs.Blanks.{is_blank}
+use Rattle.std.specs.Prelude.{unwrap_or}
 use Rattle.rad_dict.specs.Definitions.{Definitions}
 use Rattle.unlang_cond.specs.declared.atom.Pattern.{Pattern}
 use Rattle.unlang_cond.specs.declared.atom.Token.{Token}
@@ -15,8 +14,8 @@ use Rattle.unlang_cond.specs.Faults.{offset_of, fault_of}
 use Rattle.unlang_cond.specs.Tokens.{tokens_of}
 use Rattle.unlang_cond.specs.Steps.{pattern_in, Refuses, RefusesAt}
 use Rattle.unlang_cond.specs.Conditions.{IsFaultOf}
-use Rattle.unlang_cond.specs.Places.{HasPart, HasOctet, IsToldAt}
-use Rattle.unlang_cond.proofs.FaultSpots.{IsLeft, IsClear, AtPart, AtOctet, IsWrongAt, IsSlash}
+use Rattle.unlang_cond.specs.Places.{HasOctet, IsToldAt}
+use Rattle.unlang_cond.proofs.FaultSpots.{IsClear, AtOctet, IsWrongAt, IsSlash}
 use Rattle.unlang_cond.proofs.FaultReadings.{HaveSlashes, IsWrongOr, text_fault}
 
 behind : (front back : List ℕ) → slice_index (front ++ back) (length front) ≡ slice_index back 0

@@ -1,9 +1,9 @@
 -- Where reading a condition goes wrong: at a part of it, and at a reference's or a quoted text's front where an attribute is
 -- unknown.
-use Rattle.std.proofs.Common.{◌≡◌, ℕ, zero, suc, ◌+◌, Bool, true, false, ◌&&◌, ◌||◌, cond, eqb, List, [], ◌∷◌, ◌++◌, length, take, drop, Option, Some, None, Result, Ok, Err, slice_index, inl, inr, refl, sym, ap, ◌∙◌}
+use Rattle.std.proofs.Common.{◌≡◌, ℕ, zero, suc, ◌+◌, Bool, true, false, ◌&&◌, cond, eqb, List, [], ◌∷◌, ◌++◌, length, take, drop, Option, Some, None, Result, Ok, Err, slice_index, inl, inr, refl, sym, ◌∙◌}
 use Rattle.std.proofs.lemmas.Bool.{cases_Bool, eqb-true}
 use Rattle.std.proofs.lemmas.List.{append-nil}
-use Rattle.std.specs.Prelude.{◌⊎◌, nat_lt}
+use Rattle.std.specs.Prelude.{nat_lt}
 use Rattle.rad_text.specs.Blanks.{after_blanks}
 use Rattle.rad_text.specs.Read.{◌>>=◌, found}
 use Rattle.rad_conf.specs.Words.{quoted_len}
@@ -14,7 +14,7 @@ use Rattle.rad_dict.specs.Definitions.{Definitions}
 use Rattle.unlang_reference.specs.declared.reference.Reference.{Reference}
 use Rattle.unlang_reference.specs.declared.reading.NoReference.{NoReference}
 use Rattle.unlang_reference.specs.declared.reading.NoReference.TheVariants as no
-use Rattle.unlang_reference.specs.Reading.{reference_of, named_alone}
+use Rattle.unlang_reference.specs.Reading.{reference_of}
 use Rattle.unlang_xlat.specs.declared.fault.XlatFault.{XlatFault}
 use Rattle.unlang_xlat.specs.declared.fault.XlatFault.TheVariants as xlat
 use Rattle.unlang_xlat.specs.Faults.{parsed}
@@ -32,7 +32,7 @@ use Rattle.unlang_cond.specs.declared.atom_reading.Lead.TheVariants as lead
 use Rattle.unlang_cond.specs.declared.operator.Relation.{Relation}
 use Rattle.unlang_cond.specs.declared.operator.Relation.TheVariants.{Nothing, Compares, Looks, Other}
 use Rattle.unlang_cond.specs.declared.fault.Wrong.{Wrong}
-use Rattle.unlang_cond.specs.declared.fault.Wrong.TheVariants.{BadCondition, UnknownAttr}
+use Rattle.unlang_cond.specs.declared.fault.Wrong.TheVariants.{BadCondition}
 use Rattle.unlang_cond.specs.Expansions.{Expansion, placed, expansion_of}
 use Rattle.unlang_cond.specs.Words.{bare_len, bare_word, after_word, written}
 use Rattle.unlang_cond.specs.Operators.{relation_at}
@@ -40,7 +40,7 @@ use Rattle.unlang_cond.specs.Sides.{is_quoted, double_at, single_at, quoted_at, 
 use Rattle.unlang_cond.specs.Atoms.{named_lead, lead_of, flag_at, pattern_at, compared, compared_at, looked_at, related_by, related, led_by, atom_at}
 use Rattle.unlang_cond.specs.Tokens.{operand_at, link_at, token_at, awaits_after, depth_after, wrong_at_end, read_in, tokens_of}
 use Rattle.unlang_cond.specs.Steps.{pattern_of_atom, pattern_in}
-use Rattle.unlang_cond.proofs.FaultSpots.{IsLeft, IsClear, AtPart, AtOctet, IsWrongAt, Within, WithinAlone, then_within, alone_within, alone_then, dropped, blanks_left, blanks_clear, HasFront, front_taken, here, octet_here, Any, IsSlash}
+use Rattle.unlang_cond.proofs.FaultSpots.{IsLeft, IsClear, AtOctet, IsWrongAt, Within, WithinAlone, then_within, alone_within, alone_then, dropped, blanks_left, blanks_clear, HasFront, front_taken, here, octet_here, Any, IsSlash}
 
 module _ (dict : Definitions) (whole : List ℕ) where
   expansion_fault : (text : List ℕ) (read : Result Expansion XlatFault) → IsLeft whole text → IsClear text → slice_index text 0 ≡ 34 → WithinAlone whole Any (placed read (length text))

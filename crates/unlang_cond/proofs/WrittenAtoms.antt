@@ -1,5 +1,5 @@
 -- Atoms of a condition that are written and read again.
-use Rattle.std.proofs.Common.{◌≡◌, ℕ, suc, ◌+◌, ◌<◌, Bool, true, false, not, ◌&&◌, ◌||◌, ◌==◌, eqb, cond, List, [], ◌∷◌, ◌++◌, length, take, drop, map, Option, Some, None, Result, Ok, Err, slice_index, codes, inl, inr, refl, sym, ap, ◌∙◌, append_assoc, arith}
+use Rattle.std.proofs.Common.{◌≡◌, ℕ, ◌+◌, Bool, true, false, not, eqb, List, [], ◌∷◌, ◌++◌, length, map, Some, None, Ok, slice_index, refl, ap, ◌∙◌, append_assoc, arith}
 use Rattle.std.proofs.lemmas.Grind.{common_steps}
 use Rattle.std.proofs.lemmas.Slice.Eq.{bytes_eq-Decides}
 use Rattle.std.proofs.Math.Seq.{take-append_seam}
@@ -8,7 +8,6 @@ use Rattle.rad_words.specs.declared.codes.Code.{Code}
 use Rattle.rad_words.specs.declared.codes.Code.TheVariants as code
 use Rattle.rad_value.specs.declared.comparison.Cmp.{Cmp}
 use Rattle.rad_value.specs.declared.comparison.Cmp.TheVariants.{Eq, Ne, Lt, Le, Gt, Ge}
-use Rattle.rad_text.specs.Read.{◌>>=◌, found}
 use Rattle.rad_text.specs.Blanks.{after_blanks}
 use Rattle.rad_conf.specs.Signs.{sign_at, longer_sign, bare_at, is_count, braces_at, operator_at, is_operator_pair, is_operator_octet}
 use Rattle.rad_conf.specs.Spelling.{is_quoted}
@@ -21,15 +20,13 @@ use Rattle.unlang_cond.specs.declared.atom.Operand.{Operand}
 use Rattle.unlang_cond.specs.declared.atom.Pattern.{Pattern}
 use Rattle.unlang_cond.specs.declared.atom.Atom.{Atom}
 use Rattle.unlang_cond.specs.declared.atom.Atom.TheVariants as atom
-use Rattle.unlang_cond.specs.declared.operator.Relation.{Relation}
-use Rattle.unlang_cond.specs.declared.operator.Relation.TheVariants.{Nothing, Compares, Looks, Other}
-use Rattle.unlang_cond.specs.declared.fault.Wrong.{Wrong}
+use Rattle.unlang_cond.specs.declared.operator.Relation.TheVariants.{Nothing, Compares, Looks}
 use Rattle.unlang_cond.specs.Words.{ends_bare, bare_len}
 use Rattle.unlang_cond.specs.Operators.{long_relation, relation_of, relation_at}
-use Rattle.unlang_cond.specs.Sides.{side_at, operand_of, value_read}
+use Rattle.unlang_cond.specs.Sides.{side_at}
 use Rattle.unlang_cond.specs.Atoms.{is_name, constant_of, code_of, named_lead, flag_at, pattern_at, compared, compared_at, looked_at, related, atom_at}
 use Rattle.unlang_cond.specs.Outlines.{unplaced}
-use Rattle.unlang_cond.specs.Written.{IsGap, nothing, space, tab, IsBare, last_joins, is_parted, constant_name, code_name, comparison_sign, look_sign, flag, pattern_of, IsQuotedSide, single, double, IsLeft, left_reference, left_name, left_quoted, IsRight, IsOperand, against_reference, against_value, against_expansion, IsAtom, constant, returned, present, values, texts, look}
+use Rattle.unlang_cond.specs.Written.{IsGap, nothing, space, tab, IsBare, last_joins, is_parted, constant_name, code_name, comparison_sign, look_sign, flag, IsQuotedSide, single, double, IsLeft, left_reference, left_name, left_quoted, IsOperand, against_reference, against_value, against_expansion, IsAtom, constant, returned, present, values, texts, look}
 use Rattle.unlang_cond.proofs.WrittenWords.{Follows, word_len, marked_len, taken, left_over, bare_apart, Front, front_of, marked_front, front_append, Ends, at_end, at_space, at_tab, at_close, at_and, at_or, ends_follow, gap_passed}
 use Rattle.unlang_cond.proofs.WrittenSides.{quoted_end, behind_quote, quoted_read, begins_quoted, quoted_front, right_read, right_front}
 

@@ -1,5 +1,5 @@
 -- A whole condition that is written is read as its tree, and is refused for a pattern alone.
-use Rattle.std.proofs.Common.{◌≡◌, ℕ, ◌≤◌, Bool, true, false, not, List, [], ◌∷◌, ◌++◌, length, map, Option, Some, None, inl, inr, refl, sym, ap, ◌∙◌, subst}
+use Rattle.std.proofs.Common.{◌≡◌, ℕ, Bool, true, false, List, [], ◌∷◌, ◌++◌, length, map, Option, Some, None, inl, inr, refl, sym, ap, ◌∙◌, subst}
 use Rattle.std.proofs.lemmas.List.{append-nil}
 use Rattle.std.specs.Option.{option_map}
 use Rattle.std.specs.Prelude.{◌⊎◌}
@@ -19,7 +19,7 @@ use Rattle.unlang_cond.specs.Steps.{tokens_in, RefusesAt}
 use Rattle.unlang_cond.specs.Trees.{Tree, Leaf, Branch, fresh, anded, ored, negating, chained, whole, given, closed, grown_by, grow, grown, innermost, tree_of}
 use Rattle.unlang_cond.specs.Conditions.{steps_of, condition_of, IsReadAs, IsFaultOf}
 use Rattle.unlang_cond.specs.Outlines.{outline, HasRefused}
-use Rattle.unlang_cond.specs.Written.{IsGap, nothing, space, tab, IsAny, IsCondition, condition}
+use Rattle.unlang_cond.specs.Written.{IsGap, nothing, space, tab, IsCondition, condition}
 use Rattle.unlang_cond.proofs.Turns.{Enough, starts, is_done}
 use Rattle.unlang_cond.proofs.WrittenWords.{Ends, at_end, ends_behind, gap_passed}
 use Rattle.unlang_cond.proofs.WrittenTrees.{plain_step, plain_steps, shorter, AnyRead, any_read, any_stays}

@@ -1,11 +1,11 @@
 -- A tree as it is printed is written by the grammar.
-use Rattle.std.proofs.Common.{◌≡◌, ℕ, Bool, true, false, not, List, [], ◌∷◌, ◌++◌, Option, Some, None, subst}
+use Rattle.std.proofs.Common.{ℕ, true, false, List, [], ◌∷◌, Some, None, subst}
 use Rattle.std.proofs.lemmas.List.{append-nil}
 use Rattle.rad_dict.specs.Definitions.{Definitions}
 use Rattle.unlang_cond.specs.declared.atom.Atom.{Atom}
 use Rattle.unlang_cond.specs.Trees.{Tree, Always, Leaf, Not, And, Or}
 use Rattle.unlang_cond.specs.Outlines.{Place, Whole, BesideOr, BesideAnd, BehindNot, parts_or, parts_and, parts_not, enclosed, text_at, cond_text, IsSpelled}
-use Rattle.unlang_cond.specs.Written.{IsGap, nothing, space, AreSigns, no_sign, sign, IsFactor, alone, group, IsSigned, signed, IsAll, one_of_all, both, IsAny, one_of_any, either, IsCondition, condition}
+use Rattle.unlang_cond.specs.Written.{IsGap, nothing, space, no_sign, sign, IsFactor, alone, group, IsSigned, signed, IsAll, one_of_all, both, IsAny, one_of_any, either, IsCondition, condition}
 
 module _ (dict : Definitions) where
   -- What may stand at a place.

@@ -1,5 +1,5 @@
 -- Sides of comparisons that are written and read again.
-use Rattle.std.proofs.Common.{◌≡◌, ℕ, suc, ◌+◌, Bool, true, false, not, ◌&&◌, ◌||◌, ◌==◌, eqb, cond, List, [], ◌∷◌, ◌++◌, length, take, drop, Option, Some, None, Result, Ok, Err, slice_index, codes, refl, sym, ap, ◌∙◌, append_assoc, arith}
+use Rattle.std.proofs.Common.{◌≡◌, ℕ, suc, ◌+◌, Bool, true, false, not, ◌&&◌, ◌==◌, eqb, List, [], ◌∷◌, ◌++◌, length, drop, Option, Some, None, Ok, refl, sym, ap, ◌∙◌, append_assoc, arith}
 use Rattle.std.proofs.lemmas.Bool.Decides.{Decides-eqb}
 use Rattle.std.proofs.lemmas.Grind.{common_steps}
 use Rattle.std.proofs.lemmas.List.{append-nil}
@@ -8,19 +8,18 @@ use Rattle.rad_dict.specs.Definitions.{Definitions}
 use Rattle.rad_conf.specs.declared.spelling.Spelling.{Spelling}
 use Rattle.rad_conf.specs.declared.spelling.Spelling.TheVariants as spelling
 use Rattle.rad_conf.specs.Words.{escape_of, quoted_from, quoted_len}
-use Rattle.rad_conf.specs.Spelling.{parts_words, is_quoted}
+use Rattle.rad_conf.specs.Spelling.{is_quoted}
 use Rattle.unlang_reference.specs.declared.reference.Reference.{Reference}
 use Rattle.unlang_reference.specs.Reading.{reference_of, named_alone}
 use Rattle.unlang_xlat.specs.Faults.{parsed}
 use Rattle.unlang_cond.specs.declared.atom.Side.{Side}
 use Rattle.unlang_cond.specs.declared.atom.Side.TheVariants as side
-use Rattle.unlang_cond.specs.declared.fault.Wrong.{Wrong}
 use Rattle.unlang_cond.specs.Expansions.{Expansion}
-use Rattle.unlang_cond.specs.Words.{bare_len, bare_word, after_word, written_from, written}
+use Rattle.unlang_cond.specs.Words.{written_from}
 use Rattle.unlang_cond.specs.Sides as sides
-use Rattle.unlang_cond.specs.Sides.{double_at, single_at, quoted_at, referred, bare_side, plain_side, side_at}
-use Rattle.unlang_cond.specs.Written.{is_plain, IsBare, no_more, octet, count, IsText, nothing_more, itself, escape, IsQuotedSide, single, double, IsRight, right_reference, right_name, right_word, right_quoted}
-use Rattle.unlang_cond.proofs.WrittenWords.{Follows, word_len, marked_len, taken, left_over, bare_apart, Front, front_of, quote_front, single_front, marked_front, front_append}
+use Rattle.unlang_cond.specs.Sides.{double_at, single_at, quoted_at, plain_side, side_at}
+use Rattle.unlang_cond.specs.Written.{IsBare, IsText, nothing_more, itself, escape, IsQuotedSide, single, double, IsRight, right_reference, right_name, right_word, right_quoted}
+use Rattle.unlang_cond.proofs.WrittenWords.{Follows, word_len, marked_len, taken, left_over, bare_apart, Front, front_of, quote_front, single_front, marked_front}
 
 -- The quote that closes a text is found where it is written.
 pub quoted_span : (quote : ℕ) (raw rest : List ℕ) (len : ℕ) (escaped : Bool) → eqb quote 10 ≡ false → is_quoted quote escaped raw ≡ true → quoted_from quote len escaped (raw ++ quote ∷ rest) ≡ Some (len + length raw)

@@ -1,28 +1,25 @@
 -- Conditions that are written and read again: the tokens of what the grammar writes, and the tree that they make.
-use Rattle.std.proofs.Common.{◌≡◌, ℕ, zero, suc, ◌+◌, ◌-◌, ◌<◌, ◌≤◌, Bool, true, false, not, eqb, cond, List, [], ◌∷◌, ◌++◌, length, drop, map, Option, Some, None, Result, Ok, Err, slice_index, inl, inr, refl, sym, ap, ◌∙◌, append_assoc, length-append, subst, arith}
+use Rattle.std.proofs.Common.{◌≡◌, ℕ, ◌+◌, ◌-◌, ◌<◌, ◌≤◌, Bool, true, false, not, cond, List, [], ◌∷◌, ◌++◌, length, map, Option, Some, None, Ok, inl, inr, refl, sym, ap, ◌∙◌, append_assoc, length-append, subst, arith}
 use Rattle.std.proofs.lemmas.Bool.{lt-ltb}
 use Rattle.std.proofs.lemmas.List.{append-nil, map-append}
 use Rattle.std.specs.Prelude.{◌⊎◌}
-use Rattle.regex.specs.declared.bytes.regex.Regex.{Regex}
 use Rattle.rad_text.specs.Blanks.{is_blank, after_blanks}
 use Rattle.rad_dict.specs.Definitions.{Definitions}
 use Rattle.unlang_cond.specs.declared.atom.Atom.{Atom}
 use Rattle.unlang_cond.specs.declared.atom.Atom.TheVariants as atom
-use Rattle.unlang_cond.specs.declared.atom.Pattern.{Pattern}
 use Rattle.unlang_cond.specs.declared.atom.Token.{Token}
 use Rattle.unlang_cond.specs.declared.atom.Token.TheVariants as token
 use Rattle.unlang_cond.specs.declared.fault.Wrong.{Wrong}
 use Rattle.unlang_cond.specs.declared.groups.Step.{Step}
 use Rattle.unlang_cond.specs.Atoms.{atom_at}
-use Rattle.unlang_cond.specs.Tokens.{operand_at, link_at, token_at, awaits_after, depth_after, read_in, tokens_of}
-use Rattle.unlang_cond.specs.Patterns.{IsRefused}
-use Rattle.unlang_cond.specs.Steps.{tokens_in, pattern_of_atom, pattern_in, Refuses, RefusesAt}
-use Rattle.unlang_cond.specs.Trees.{Tree, Always, Leaf, Not, And, Or, Branch, fresh, anded, negating, whole, given, grow, grown, innermost, tree_of}
-use Rattle.unlang_cond.specs.Outlines.{unplaced, outline, IsNotTaken, HasRefused}
-use Rattle.unlang_cond.specs.Written.{IsGap, pattern_of, IsAtom, AreSigns, no_sign, sign, IsFactor, alone, group, IsSigned, signed, IsAll, one_of_all, both, IsAny, one_of_any, either, IsCondition, condition}
-use Rattle.unlang_cond.proofs.Turns.{Enough, starts, going}
-use Rattle.unlang_cond.proofs.WrittenWords.{Front, front_append, Ends, at_end, at_close, at_and, at_or, ends_behind, gap_passed}
-use Rattle.unlang_cond.proofs.WrittenAtoms.{AtomRead, atom_read, atom_front}
+use Rattle.unlang_cond.specs.Tokens.{token_at, awaits_after, depth_after}
+use Rattle.unlang_cond.specs.Steps.{pattern_of_atom, Refuses, RefusesAt}
+use Rattle.unlang_cond.specs.Trees.{Tree, Leaf, And, Or, Branch, fresh, anded, negating, whole, given, grow, grown}
+use Rattle.unlang_cond.specs.Outlines.{unplaced, IsNotTaken, HasRefused}
+use Rattle.unlang_cond.specs.Written.{IsGap, IsAtom, AreSigns, no_sign, sign, IsFactor, alone, group, IsSigned, signed, IsAll, one_of_all, both, IsAny, one_of_any, either}
+use Rattle.unlang_cond.proofs.Turns.{Enough, going}
+use Rattle.unlang_cond.proofs.WrittenWords.{Front, Ends, at_close, at_and, at_or, ends_behind, gap_passed}
+use Rattle.unlang_cond.proofs.WrittenAtoms.{atom_read, atom_front}
 
 -- Tokens apart from where their patterns stand and from what those are compiled to.
 abbrev pub plain_token : Token → Token

@@ -1,5 +1,5 @@
 -- Where the fault of a condition lies, in the words of whoever looks for it. This project's own.
-use Rattle.std.specs.Prelude.{◌≡◌, ◌⊎◌, ℕ, ◌<◌, false, List, [], ◌∷◌, length, slice_index}
+use Rattle.std.specs.Prelude.{◌≡◌, ◌⊎◌, ℕ, ◌<◌, false, List, length, slice_index}
 use Rattle.rad_text.specs.Blanks.{is_blank}
 use Rattle.unlang_cond.specs.declared.fault.CondFault.{CondFault}
 use Rattle.unlang_cond.specs.declared.fault.CondFault.TheVariants as fault

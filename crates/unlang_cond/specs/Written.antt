@@ -1,7 +1,7 @@
 -- How conditions are written, apart from how they are read; after unlang(5), 'Conditions': `||` joins what `&&` joins, `!`
 -- stands before an atom or parentheses, and blanks may stand between any two parts. That two `!` in a row are none is this
 -- project's own.
-use Rattle.std.specs.Prelude.{◌≡◌, ℕ, Bool, true, false, not, ◌||◌, ◌==◌, List, [], ◌∷◌, ◌++◌, Option, Some, None, Ok, codes}
+use Rattle.std.specs.Prelude.{◌≡◌, ℕ, Bool, true, false, not, ◌||◌, ◌==◌, List, [], ◌∷◌, ◌++◌, Some, None, Ok, codes}
 use Rattle.rad_words.specs.declared.codes.Code.{Code}
 use Rattle.rad_words.specs.declared.codes.Code.TheVariants as code
 use Rattle.rad_value.specs.declared.values.Value.{Value}
