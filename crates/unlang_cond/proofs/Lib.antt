@@ -4,3 +4,12 @@ pub mod Located
 pub mod Evaluated
 pub mod Ready
 pub mod Expanding
+pub mod WrittenWords
+pub mod WrittenSides
+pub mod WrittenAtoms
+pub mod WrittenTrees
+pub mod WrittenConditions
+pub mod WrittenPrinted
+pub mod FaultSpots
+pub mod FaultReadings
+pub mod FaultLaw

@@ -14,3 +14,6 @@ pub mod Faults
 pub mod Steps
 pub mod Conditions
 pub mod Laws
+pub mod Written
+pub mod Outlines
+pub mod Places

@@ -24,4 +24,7 @@ mod words;
 
 pub use condition::Cond;
 pub use fault::CondFault;
-pub use laws::and_binds_tighter_than_or;
+pub use laws::{
+    and_binds_tighter_than_or, conditions_are_printed_as_they_are_written,
+    faults_are_told_where_they_stand, written_conditions_are_read_back,
+};

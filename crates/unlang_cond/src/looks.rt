@@ -1,6 +1,6 @@
 //! Looks for a pattern.
 
-ghost use Rattle.std.specs.Prelude.{◌≡◌, IfOk};
+ghost use Rattle.std.specs.Prelude.{◌≡◌, ◌+◌, ◌≤◌, IfOk};
 ghost use Rattle.std.specs.Option.{option_map};
 ghost use Rattle.unlang_cond.specs.Looks.{cut_out, located, all_located, looked};
 
@@ -43,21 +43,35 @@ fn located(
     }
 }
 
+/// What three groups span.
+type Three = (Option<Octets>, Option<Octets>, Option<Octets>);
+
+/// Copies of what three groups span, from this one on.
+fn three(
+    alloc: Global,
+    locations: &CaptureLocations,
+    text: &[u8],
+    first: usize,
+) -> Result<Three, NoMemory>
+    requires { first ≤ 6 }
+    ensures { IfOk result (λ spans. spans
+        ≡ (located locations.now text.now first, located locations.now text.now (first + 1), located locations.now text.now (first + 2))) }
+{
+    Ok((
+        located(alloc, locations, text, first)?,
+        located(alloc, locations, text, first + 1)?,
+        located(alloc, locations, text, first + 2)?,
+    ))
+}
+
 /// What the first nine groups span.
 fn captured(alloc: Global, locations: &CaptureLocations, text: &[u8]) -> Result<Captures, NoMemory>
     ensures { IfOk result (λ captures. captures ≡ all_located locations.now text.now) }
 {
-    Ok([
-        located(alloc, locations, text, 0)?,
-        located(alloc, locations, text, 1)?,
-        located(alloc, locations, text, 2)?,
-        located(alloc, locations, text, 3)?,
-        located(alloc, locations, text, 4)?,
-        located(alloc, locations, text, 5)?,
-        located(alloc, locations, text, 6)?,
-        located(alloc, locations, text, 7)?,
-        located(alloc, locations, text, 8)?,
-    ])
+    let (a, b, c) = three(alloc, locations, text, 0)?;
+    let (d, e, f) = three(alloc, locations, text, 3)?;
+    let (g, h, i) = three(alloc, locations, text, 6)?;
+    Ok([a, b, c, d, e, f, g, h, i])
 }
 
 /// The captures of the pattern's leftmost match in a text, if there is one.

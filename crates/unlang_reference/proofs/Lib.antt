@@ -1,2 +1,4 @@
 pub mod Prefixes
 pub mod OneMore
+pub mod WrittenPlaces
+pub mod WrittenNames

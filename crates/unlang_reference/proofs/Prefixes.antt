@@ -1,5 +1,5 @@
 -- A prefix that a text has, by the octets that were cut off.
-use Rattle.std.proofs.Common.{◌≡◌, ℕ, ◌≤◌, min, true, false, List, [], ◌∷◌, length, take, drop, Some, None, refl, sym, ap, ◌∙◌, arith}
+use Rattle.std.proofs.Common.{◌≡◌, ℕ, min, true, false, List, length, take, drop, Some, None, refl, ap, ◌∙◌}
 use Rattle.std.specs.Str.{str_eq_ignore_ascii_case}
 use Rattle.std.proofs.lemmas.List.{take_min, drop_min}
 use Rattle.unlang_reference.specs.Reading.{after_prefix}

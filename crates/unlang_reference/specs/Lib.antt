@@ -1,2 +1,3 @@
 pub mod Values
 pub mod Reading
+pub mod Written

@@ -4,8 +4,10 @@
 //! policies, which know a reference by its list, its attribute and which of the attribute's values it means.
 #![tactic(auto)]
 
+mod laws;
 mod reading;
 mod reference;
 
+pub use laws::written_references_are_read_back;
 pub use reading::{NoReference, named_alone, reference_of};
 pub use reference::{Reference, Which};

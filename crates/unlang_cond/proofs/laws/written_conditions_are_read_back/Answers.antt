@@ -1,0 +1,8 @@
+use Rattle.unlang_cond.proofs.WrittenConditions.{condition_read, condition_accepted}
+use Rattle.unlang_cond.proofs.laws.written_conditions_are_read_back.Goals as goal
+
+pub returns-clause-read : goal.returns-clause-read
+returns-clause-read c = λ dict tree text cond is read. condition_read dict tree text cond is read
+
+pub returns-clause-accepted : goal.returns-clause-accepted
+returns-clause-accepted c = λ dict tree text fault is e. condition_accepted dict tree text fault is e
