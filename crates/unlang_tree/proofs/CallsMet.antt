@@ -28,9 +28,10 @@ use Rattle.unlang_tree.specs.Sites.{Site}
 use Rattle.unlang_tree.specs.Readings.{one_more, after_each, most_statements}
 use Rattle.unlang_tree.specs.Words.{is_one_of, later_words, later_blocks}
 use Rattle.unlang_tree.specs.Calls.{is_policy, can_be_called, call_of, is_optional, called_name, is_there, call_at}
+use Rattle.unlang_tree.specs.Actions.{overrides_of}
 use Rattle.unlang_tree.specs.Updates.{update_at}
 use Rattle.unlang_tree.specs.Statements.{counted_call, word_at, is_pair, with_actions, call_block_at, update_statement, block_at, statement_at, and_also, with_statement, statements_of}
-use Rattle.unlang_tree.specs.Sections.{subsection_block, with_subsection, own_name, with_call, with_own, with_part, parts_of, section_block, with_authorize, with_authenticate, with_section, with_item, server_of}
+use Rattle.unlang_tree.specs.Sections.{subsection_block, with_subsection, own_name, with_call, with_run, with_own, with_written, with_one, with_part, parts_of, section_block, with_section, with_item, server_of}
 use Rattle.unlang_tree.specs.Policies.{server_block, with_server, servers_of}
 use Rattle.unlang_tree.specs.EachCall.{calls_in, calls_of, EachCall, EachCallWithin, EachCallIn, EachCallOfSections, EachCallOf, IsMet}
 use Rattle.unlang_tree.proofs.Binds.{ok_same, err_ok, bind_ok, past, passed, kept, all_both, all_wider}
@@ -134,18 +135,22 @@ module _ (site : Site) where
       let one = bind_ok (call_at site.root site.instances section place word) (counted_call room place) statement rest in
       counted_met section room place one.0 statement (word_call_met section place word one.0 one.1.0) one.1.1
 
-  actions_met : (section : Section) (place : Place) (call : Option Call) (statement : Option Statement) → with_actions place call ≡ Ok statement → AreMetIf section statement
+  actions_met : (section : Section) (room : ℕ) (place : Place) (pairs : List Node) (call : Option Call) (statement : Option Statement) → IsMetIf section call
+      → with_actions room place pairs call ≡ Ok statement → AreMetIf section statement
   unfolding with_actions
-  actions_met section place None statement e = subst (AreMetIf section) (ok_same None statement e) tt
-  actions_met section place (Some call) statement e = err_ok statement (fault.NotBuilt place) e
+  actions_met section room place pairs None statement met e = subst (AreMetIf section) (ok_same None statement e) tt
+  actions_met section room place pairs (Some call) statement met e =
+      let counted = bind_ok (one_more room place) (λ counted. overrides_of pairs >>= λ overrides. Ok (Some (record { place = place; kind = kinds.Call (record { instance = call.instance; overrides = overrides }) }))) statement e in
+      let given = bind_ok (overrides_of pairs) (λ overrides. Ok (Some (record { place = place; kind = kinds.Call (record { instance = call.instance; overrides = overrides }) }))) statement counted.1.1 in
+      subst (AreMetIf section) (ok_same (Some (record { place = place; kind = kinds.Call (record { instance = call.instance; overrides = given.0 }) })) statement given.1.1) (met, tt)
 
-  call_block_met : (section : Section) (place : Place) (kind : List ℕ) (name : Option Word) (body : List Node) (statement : Option Statement)
-      → call_block_at site section place kind name body ≡ Ok statement → AreMetIf section statement
+  call_block_met : (section : Section) (room : ℕ) (place : Place) (kind : List ℕ) (name : Option Word) (body : List Node) (statement : Option Statement)
+      → call_block_at site section room place kind name body ≡ Ok statement → AreMetIf section statement
   unfolding call_block_at
-  call_block_met section place kind name body statement e =
-      let rest = past (is_some name || not (list_all is_pair body)) (fault.UnknownKeyword place) (call_at site.root site.instances section place kind >>= λ call. with_actions place call) statement e in
-      let one = bind_ok (call_at site.root site.instances section place kind) (λ call. with_actions place call) statement rest in
-      actions_met section place one.0 statement one.1.1
+  call_block_met section room place kind name body statement e =
+      let rest = past (is_some name || not (list_all is_pair body)) (fault.UnknownKeyword place) (call_at site.root site.instances section place kind >>= λ call. with_actions room place body call) statement e in
+      let one = bind_ok (call_at site.root site.instances section place kind) (λ call. with_actions room place body call) statement rest in
+      actions_met section room place body one.0 statement (word_call_met section place kind one.0 one.1.0) one.1.1
 
   update_met : (section : Section) (room : ℕ) (place : Place) (name : Option Word) (body : List Node) (statement : Option Statement)
       → update_statement site room place name body ≡ Ok statement → AreMetIf section statement
@@ -163,9 +168,9 @@ module _ (site : Site) where
   unfolding block_at
   block_met section room place kind name body statement e =
       either_met section (str_eq_ignore_ascii_case kind (codes "update")) (update_statement site room place name body)
-      (if is_one_of later_blocks kind then Err (fault.NotBuilt place) else call_block_at site section place kind name body) statement
+      (if is_one_of later_blocks kind then Err (fault.NotBuilt place) else call_block_at site section room place kind name body) statement
       (update_met section room place name body statement)
-      (λ rest. call_block_met section place kind name body statement (past (is_one_of later_blocks kind) (fault.NotBuilt place) (call_block_at site section place kind name body) statement rest))
+      (λ rest. call_block_met section room place kind name body statement (past (is_one_of later_blocks kind) (fault.NotBuilt place) (call_block_at site section room place kind name body) statement rest))
       e
 
   -- a node by its item, as `out-Item` opens it
@@ -203,99 +208,85 @@ module _ (site : Site) where
   statements_met section room nodes statements e =
       kept (with_statement site section room) (AreMet section) (step_met section room) [] statements nodes tt e
 
-  abbrev PartsMet : Parts → Type 0
-  PartsMet known = EachCallWithin (IsMet site.instances) which.Authenticate known.subsections
+  abbrev PartsMet : Section → Parts → Type 0
+  PartsMet section known = AreMet section known.statements × EachCallWithin (IsMet site.instances) section known.subsections
 
-  abbrev within : List Subsection → Subsection → Type 0
-  within subs sub = EachCallWithin (IsMet site.instances) which.Authenticate (subs ++ sub ∷ [])
+  sub_added : (section : Section) (subs : List Subsection) (sub : Subsection) → EachCallWithin (IsMet site.instances) section subs → AreMet section sub.statements
+      → EachCallWithin (IsMet site.instances) section (subs ++ sub ∷ [])
+  sub_added section subs sub all more = all_both (λ (one : Subsection). EachCall (IsMet site.instances) section one.statements) subs (sub ∷ []) all (more, tt)
 
-  sub_added : (subs : List Subsection) (sub : Subsection) → EachCallWithin (IsMet site.instances) which.Authenticate subs → AreMet which.Authenticate sub.statements → within subs sub
-  sub_added subs sub all more = all_both (λ (one : Subsection). EachCall (IsMet site.instances) which.Authenticate one.statements) subs (sub ∷ []) all (more, tt)
-
-  subsection_met : (known next : Parts) (name : List ℕ) (body : List Node) → PartsMet known → with_subsection site known name body ≡ Ok next → PartsMet next
+  subsection_met : (section : Section) (known next : Parts) (name : List ℕ) (body : List Node) → PartsMet section known → with_subsection site section known name body ≡ Ok next → PartsMet section next
   unfolding with_subsection
-  subsection_met known next name body all e =
-      let one = bind_ok (statements_of site which.Authenticate known.room body) (λ statements. Ok (record { subsections = known.subsections ++ record { name = name; statements = statements } ∷ []; room = known.room - length statements })) next e in
-      subst PartsMet (ok_same (record { subsections = known.subsections ++ record { name = name; statements = one.0 } ∷ []; room = known.room - length one.0 }) next one.1.1)
-      (sub_added known.subsections (record { name = name; statements = one.0 }) all (statements_met which.Authenticate known.room body one.0 one.1.0))
+  subsection_met section known next name body all e =
+      let one = bind_ok (statements_of site section known.room body) (λ statements. Ok (record { statements = known.statements; subsections = known.subsections ++ record { name = name; statements = statements } ∷ []; room = known.room - length statements })) next e in
+      subst (PartsMet section) (ok_same (record { statements = known.statements; subsections = known.subsections ++ record { name = name; statements = one.0 } ∷ []; room = known.room - length one.0 }) next one.1.1)
+      (all.0, sub_added section known.subsections (record { name = name; statements = one.0 }) all.1 (statements_met section known.room body one.0 one.1.0))
 
-  own_met : (name : Option (List ℕ)) (statement : Statement) (subs : List Subsection) → EachCallWithin (IsMet site.instances) which.Authenticate subs
-      → AllByRecursion (IsMet site.instances which.Authenticate) (calls_in statement) → EachCallWithin (IsMet site.instances) which.Authenticate (with_call name statement subs)
-  own_met None statement subs all more = all
-  own_met (Some name) statement subs all more =
-      sub_added subs (record { name = name; statements = statement ∷ [] }) all (each_added (IsMet site.instances) which.Authenticate [] statement tt more)
+  own_met : (section : Section) (name : Option (List ℕ)) (statement : Statement) (subs : List Subsection) → EachCallWithin (IsMet site.instances) section subs
+      → AllByRecursion (IsMet site.instances section) (calls_in statement) → EachCallWithin (IsMet site.instances) section (with_call name statement subs)
+  own_met section None statement subs all more = all
+  own_met section (Some name) statement subs all more =
+      sub_added section subs (record { name = name; statements = statement ∷ [] }) all (each_added (IsMet site.instances) section [] statement tt more)
 
-  alone_met : (node : Node) (known : Parts) (statement : Option Statement) → PartsMet known → AreMetIf which.Authenticate statement → PartsMet (with_own node known statement)
-  unfolding with_own
-  alone_met node known None all more = all
-  alone_met node known (Some statement) all more = own_met (own_name node) statement known.subsections all more
+  run_met : (section : Section) (known : Parts) (statement : Statement) → PartsMet section known → AllByRecursion (IsMet site.instances section) (calls_in statement) → PartsMet section (with_run known statement)
+  run_met section known statement all more = (each_added (IsMet site.instances) section known.statements statement all.0 more, all.1)
 
-  abbrev part_of : Parts → Node → Option (List ℕ × List Node) → Result Parts TreeFault
-  part_of known node block = elim block [
-    | Some block ↦ with_subsection site known block.0 block.1
-    | None ↦ statement_at site which.Authenticate known.room node >>= λ statement. Ok (with_own node known statement)
+  written_met : (section : Section) (node : Node) (known : Parts) (statement : Statement) → PartsMet section known → AllByRecursion (IsMet site.instances section) (calls_in statement)
+      → PartsMet section (with_written section node known statement)
+  written_met which.Authorize node known statement all more = run_met which.Authorize known statement all more
+  written_met which.Authenticate node known statement all more = (all.0, own_met which.Authenticate (own_name node) statement known.subsections all.1 more)
+  written_met which.Session node known statement all more = run_met which.Session known statement all more
+  written_met which.Preacct node known statement all more = run_met which.Preacct known statement all more
+  written_met which.Accounting node known statement all more = run_met which.Accounting known statement all more
+  written_met which.PostAuth node known statement all more = run_met which.PostAuth known statement all more
+
+  one_met : (section : Section) (node : Node) (known : Parts) (statement : Option Statement) → PartsMet section known → AreMetIf section statement → PartsMet section (with_one section node known statement)
+  one_met section node known None all more = all
+  one_met section node known (Some statement) all more = written_met section node known statement all more
+
+  abbrev part_by : Section → Parts → Node → Option (List ℕ × List Node) → Result Parts TreeFault
+  part_by section known node block = elim block [
+    | Some block ↦ with_subsection site section known block.0 block.1
+    | None ↦ statement_at site section known.room node >>= λ statement. Ok (with_one section node known statement)
   ]
 
-  block_part_met : (known next : Parts) (node : Node) (block : Option (List ℕ × List Node)) → PartsMet known → part_of known node block ≡ Ok next → PartsMet next
-  block_part_met known next node (Some block) all e = subsection_met known next block.0 block.1 all e
-  block_part_met known next node None all e =
-      let one = bind_ok (statement_at site which.Authenticate known.room node) (λ statement. Ok (with_own node known statement)) next e in
-      subst PartsMet (ok_same (with_own node known one.0) next one.1.1) (alone_met node known one.0 all (statement_met which.Authenticate known.room node one.0 one.1.0))
+  part_by_met : (section : Section) (known next : Parts) (node : Node) (block : Option (List ℕ × List Node)) → PartsMet section known → part_by section known node block ≡ Ok next → PartsMet section next
+  part_by_met section known next node (Some block) all e = subsection_met section known next block.0 block.1 all e
+  part_by_met section known next node None all e =
+      let one = bind_ok (statement_at site section known.room node) (λ statement. Ok (with_one section node known statement)) next e in
+      subst (PartsMet section) (ok_same (with_one section node known one.0) next one.1.1) (one_met section node known one.0 all (statement_met section known.room node one.0 one.1.0))
 
-  part_met : (known next : Parts) (node : Node) → PartsMet known → with_part site known node ≡ Ok next → PartsMet next
+  part_met : (section : Section) (known next : Parts) (node : Node) → PartsMet section known → with_part site section known node ≡ Ok next → PartsMet section next
   unfolding with_part
-  part_met known next node all e = block_part_met known next node (subsection_block node) all e
+  part_met section known next node all e = part_by_met section known next node (subsection_block section node) all e
 
   abbrev SectionsMet : Known → Type 0
   SectionsMet known = EachCallOfSections (IsMet site.instances) known.sections
 
-  section_added : (sections : List SectionTree) (tree : SectionTree) → EachCallOfSections (IsMet site.instances) sections → EachCallIn (IsMet site.instances) tree
-      → EachCallOfSections (IsMet site.instances) (sections ++ tree ∷ [])
-  section_added sections tree all more = all_both (EachCallIn (IsMet site.instances)) sections (tree ∷ []) all (more, tt)
+  abbrev section_tree : Section → Parts → SectionTree
+  section_tree section parts = record { section = section; statements = parts.statements; subsections = parts.subsections }
 
-  abbrev authorize_of : List Statement → SectionTree
-  authorize_of statements = record { section = which.Authorize; statements = statements; subsections = [] }
-
-  abbrev authenticate_of : List Subsection → SectionTree
-  authenticate_of subs = record { section = which.Authenticate; statements = []; subsections = subs }
-
-  authorize_met : (known next : Known) (body : List Node) → SectionsMet known → with_authorize site known body ≡ Ok next → SectionsMet next
-  unfolding with_authorize
-  authorize_met known next body all e =
-      let one = bind_ok (statements_of site which.Authorize known.room body) (λ statements. Ok (record { sections = known.sections ++ authorize_of statements ∷ []; room = known.room - length statements })) next e in
-      subst SectionsMet (ok_same (record { sections = known.sections ++ authorize_of one.0 ∷ []; room = known.room - length one.0 }) next one.1.1)
-      (section_added known.sections (authorize_of one.0) all (statements_met which.Authorize known.room body one.0 one.1.0, tt))
-
-  authenticate_met : (known next : Known) (body : List Node) → SectionsMet known → with_authenticate site known body ≡ Ok next → SectionsMet next
-  unfolding with_authenticate
-  authenticate_met known next body all e =
-      let one = bind_ok (parts_of site known.room body) (λ (parts : Parts). Ok (record { sections = known.sections ++ authenticate_of parts.subsections ∷ []; room = parts.room })) next e in
-      let subs = kept (with_part site) PartsMet part_met (record { subsections = []; room = known.room }) one.0 body tt one.1.0 in
-      subst SectionsMet (ok_same (record { sections = known.sections ++ authenticate_of one.0.subsections ∷ []; room = one.0.room }) next one.1.1)
-      (section_added known.sections (authenticate_of one.0.subsections) all (tt, subs))
-
-  section_met : (known next : Known) (place : Place) (section : Section) (body : List Node) → SectionsMet known → with_section site known place section body ≡ Ok next → SectionsMet next
+  section_met : (known next : Known) (section : Section) (body : List Node) → SectionsMet known → with_section site known section body ≡ Ok next → SectionsMet next
   unfolding with_section
-  section_met known next place which.Authorize body all e = authorize_met known next body all e
-  section_met known next place which.Authenticate body all e = authenticate_met known next body all e
-  section_met known next place which.Session body all e = err_ok next (fault.NotBuilt place) e
-  section_met known next place which.Preacct body all e = err_ok next (fault.NotBuilt place) e
-  section_met known next place which.Accounting body all e = err_ok next (fault.NotBuilt place) e
-  section_met known next place which.PostAuth body all e = err_ok next (fault.NotBuilt place) e
+  section_met known next section body all e =
+      let one = bind_ok (parts_of site section known.room body) (λ (parts : Parts). Ok (record { sections = known.sections ++ section_tree section parts ∷ []; room = parts.room })) next e in
+      let met = kept (with_part site section) (PartsMet section) (part_met section) (record { statements = []; subsections = []; room = known.room }) one.0 body (tt, tt) one.1.0 in
+      subst SectionsMet (ok_same (record { sections = known.sections ++ section_tree section one.0 ∷ []; room = one.0.room }) next one.1.1)
+      (all_both (EachCallIn (IsMet site.instances)) known.sections (section_tree section one.0 ∷ []) all ((met.0, met.1), tt))
 
-  abbrev item_of : Known → Node → Option (Section × List Node) → Result Known TreeFault
-  item_of known node block = elim block [
+  abbrev item_of : Known → Option (Section × List Node) → Result Known TreeFault
+  item_of known block = elim block [
     | None ↦ Ok known
-    | Some block ↦ with_section site known node.place block.0 block.1
+    | Some block ↦ with_section site known block.0 block.1
   ]
 
-  block_item_met : (known next : Known) (node : Node) (block : Option (Section × List Node)) → SectionsMet known → item_of known node block ≡ Ok next → SectionsMet next
-  block_item_met known next node None all e = subst SectionsMet (ok_same known next e) all
-  block_item_met known next node (Some block) all e = section_met known next node.place block.0 block.1 all e
+  block_item_met : (known next : Known) (block : Option (Section × List Node)) → SectionsMet known → item_of known block ≡ Ok next → SectionsMet next
+  block_item_met known next None all e = subst SectionsMet (ok_same known next e) all
+  block_item_met known next (Some block) all e = section_met known next block.0 block.1 all e
 
   server_item_met : (known next : Known) (node : Node) → SectionsMet known → with_item site known node ≡ Ok next → SectionsMet next
   unfolding with_item
-  server_item_met known next node all e = block_item_met known next node (section_block node) all e
+  server_item_met known next node all e = block_item_met known next (section_block node) all e
 
   server_met : (name : List ℕ) (items : List Node) (server : ServerTree) → server_of site name items ≡ Ok server → EachCallOfSections (IsMet site.instances) server.sections
   unfolding server_of

@@ -1,5 +1,5 @@
 -- What holds of each call among the statements of policies, each in the section in which it stands. This project's own.
-use Rattle.std.specs.Prelude.{◌≡◌, true, List, [], ◌∷◌}
+use Rattle.std.specs.Prelude.{◌≡◌, Bool, true, List, [], ◌∷◌}
 use Rattle.std.specs.List.{AllByRecursion, flat_map}
 use Rattle.rad_words.specs.declared.sections.Section.{Section}
 use Rattle.unlang_tree.specs.declared.statement.Call.{Call}
@@ -46,3 +46,7 @@ EachCallOf holds servers = AllByRecursion (λ (server : ServerTree). EachCallOfS
 -- The instance that a call names is there and has a method for the section.
 abbrev pub IsMet : List Instance → Section → Call → Type 0
 IsMet instances section call = can_be_called instances section call.instance ≡ true
+
+-- A call passes a test of calls in their sections.
+abbrev pub Passes : (Section → Call → Bool) → Section → Call → Type 0
+Passes test section call = test section call ≡ true

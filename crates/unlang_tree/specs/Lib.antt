@@ -1,6 +1,7 @@
 pub mod Instances
 pub mod Readings
 pub mod Words
+pub mod Actions
 pub mod Calls
 pub mod Updates
 pub mod Sites

@@ -1,7 +1,7 @@
 //! The laws of policies, in the words of whoever writes them. They are facts about the definitions, and the functions do
 //! nothing.
 
-ghost use Rattle.std.specs.Prelude.{◌≡◌, ℕ, ◌≤◌, List, [], ◌∷◌, ◌++◌, length, codes, Some, None, Ok, Err};
+ghost use Rattle.std.specs.Prelude.{◌≡◌, Bool, true, ℕ, ◌≤◌, List, [], ◌∷◌, ◌++◌, length, codes, Some, None, Ok, Err};
 ghost use Rattle.rad_conf.specs.declared.tree.Node.{Node};
 ghost use Rattle.rad_conf.specs.declared.tree.Word.{Word};
 ghost use Rattle.rad_words.specs.declared.sections.Section.{Section as AnySection};
@@ -11,7 +11,7 @@ ghost use Rattle.unlang_tree.specs.Statements.{statements_of};
 ghost use Rattle.unlang_tree.specs.Policies.{servers_of};
 ghost use Rattle.unlang_tree.specs.declared.statement.Call.{Call as AnyCall};
 ghost use Rattle.unlang_tree.specs.declared.policies.ServerTree.{ServerTree};
-ghost use Rattle.unlang_tree.specs.EachCall.{EachCall, EachCallOf, IsMet};
+ghost use Rattle.unlang_tree.specs.EachCall.{EachCall, EachCallOf, IsMet, Passes};
 ghost use Rattle.unlang_tree.specs.Written.{IsBlock, Spell, IsUnknown};
 
 use crate::fault::TreeFault;
@@ -48,11 +48,11 @@ pub fn each_call_can_be_made()
     ensures { (site : Site) (servers : List ServerTree) → servers_of site ≡ Ok servers → EachCallOf (IsMet site.instances) servers }
 {}
 
-/// What holds of each call of policies still holds of each where something wider is asked: among the statements of one
-/// section, and among those of servers.
+/// What is so of each call of policies is so of each where something wider is asked: among the statements of one section, and
+/// among those of servers. The test may look at the section in which the call stands.
 pub fn what_holds_of_each_call_can_be_widened()
-    ensures statements { (holds wider : AnySection → AnyCall → Type 0) → ((section : AnySection) (call : AnyCall) → holds section call → wider section call)
-        → (section : AnySection) (statements : List AnyStatement) → EachCall holds section statements → EachCall wider section statements }
-    ensures servers { (holds wider : AnySection → AnyCall → Type 0) → ((section : AnySection) (call : AnyCall) → holds section call → wider section call)
-        → (servers : List ServerTree) → EachCallOf holds servers → EachCallOf wider servers }
+    ensures statements { (test wider : AnySection → AnyCall → Bool) → ((section : AnySection) (call : AnyCall) → test section call ≡ true → wider section call ≡ true)
+        → (section : AnySection) (statements : List AnyStatement) → EachCall (Passes test) section statements → EachCall (Passes wider) section statements }
+    ensures servers { (test wider : AnySection → AnyCall → Bool) → ((section : AnySection) (call : AnyCall) → test section call ≡ true → wider section call ≡ true)
+        → (servers : List ServerTree) → EachCallOf (Passes test) servers → EachCallOf (Passes wider) servers }
 {}

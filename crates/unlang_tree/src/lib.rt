@@ -6,6 +6,7 @@
 //! Above it stand the tables that a server runs.
 #![tactic(auto)]
 
+mod actions;
 mod calls;
 mod fault;
 mod instances;
