@@ -1,13 +1,15 @@
 //! Source trees as text: each server as `NAME{..}`, in it each section as its name, its statements and its subsections
-//! and a semicolon. A statement is ` LINE:call NUMBER`, by the number of the instance, or ` LINE:Auth-Type NAME`. A
+//! and a semicolon. A statement is ` LINE:call NUMBER`, by the number of the instance, with `{CODE=ACTION ..}` where it has
+//! actions of its own, or ` LINE:Auth-Type NAME`. A
 //! subsection is ` [NAME..]` with its statements. No servers at all are `nothing`.
 
 use rad_outside::NoMemory;
+use rad_tables::Action;
 use rad_value::{Edit, EditOp, ListName, Value};
-use rad_words::{Section, Space};
+use rad_words::{Code, Section, Space};
 use shared_cases::push_number;
 use std::alloc::Global;
-use unlang_tree::{Policies, SectionTree, Statement, StatementKind};
+use unlang_tree::{Override, Policies, SectionTree, Statement, StatementKind};
 
 /// The text of all servers.
 pub fn policies_text(alloc: Global, policies: &Policies) -> Result<Vec<u8>, NoMemory> {
@@ -80,15 +82,51 @@ fn push_statement(alloc: Global, to: &mut Vec<u8>, statement: &Statement) -> Res
         StatementKind::Call(call) => {
             to.extend_from_slice(b":call ")?;
             push_number(alloc, to, u64::from(call.instance))?;
-            if !call.overrides.is_empty() {
-                to.extend_from_slice(b" with actions")?;
-            }
-            Ok(())
+            push_overrides(alloc, to, call.overrides.as_slice())
         }
         StatementKind::Update(edit) => {
             to.extend_from_slice(b":")?;
             push_edit(to, edit)
         }
+    }
+}
+
+/// Writes the actions that aren't the default ones, as `{CODE=ACTION ..}`.
+fn push_overrides(alloc: Global, to: &mut Vec<u8>, overrides: &[Override]) -> Result<(), NoMemory> {
+    if overrides.is_empty() {
+        return Ok(());
+    }
+    let mut before: &[u8] = b"{";
+    for one in overrides {
+        to.extend_from_slice(before)?;
+        to.extend_from_slice(name_of(one.code))?;
+        to.push(b'=')?;
+        push_action(alloc, to, one.action)?;
+        before = b" ";
+    }
+    Ok(to.push(b'}')?)
+}
+
+fn push_action(alloc: Global, to: &mut Vec<u8>, action: Action) -> Result<(), NoMemory> {
+    match action {
+        Action::Return => Ok(to.extend_from_slice(b"return")?),
+        Action::Reject => Ok(to.extend_from_slice(b"reject")?),
+        Action::Priority(priority) => push_number(alloc, to, u64::from(priority)),
+    }
+}
+
+/// The name of a return code.
+fn name_of(code: Code) -> &'static [u8] {
+    match code {
+        Code::Reject => b"reject",
+        Code::Fail => b"fail",
+        Code::Ok => b"ok",
+        Code::Handled => b"handled",
+        Code::Invalid => b"invalid",
+        Code::Userlock => b"userlock",
+        Code::Notfound => b"notfound",
+        Code::Noop => b"noop",
+        Code::Updated => b"updated",
     }
 }
 

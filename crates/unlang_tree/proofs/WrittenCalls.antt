@@ -23,8 +23,9 @@ use Rattle.unlang_tree.specs.Statements.{counted_call, word_at, block_at, statem
 use Rattle.rad_words.specs.declared.sections.Section.TheVariants as which
 use Rattle.unlang_tree.specs.declared.policies.SectionTree.{SectionTree}
 use Rattle.unlang_tree.specs.declared.policies.ServerTree.{ServerTree}
+use Rattle.unlang_tree.specs.declared.subsections.Parts.{Parts}
 use Rattle.unlang_tree.specs.declared.servers.Known.{Known}
-use Rattle.unlang_tree.specs.Sections.{section_block, with_authorize, with_section, with_item, server_of}
+use Rattle.unlang_tree.specs.Sections.{subsection_block, with_one, with_part, section_block, with_section, with_item, server_of}
 use Rattle.unlang_tree.specs.Policies.{server_block, with_server, servers_of}
 use Rattle.unlang_tree.specs.Written.{IsWord, IsBlock, IsFree, IsCallable, call_from, Spell, nothing, by_name, by_dash, passed_over, IsUnknown}
 
@@ -172,17 +173,69 @@ module _ (site : Site) where
   abbrev authorize_of : List Statement → SectionTree
   authorize_of calls = record { section = which.Authorize; statements = calls; subsections = [] }
 
+  -- a word is no subsection
+  no_subsection : (node : Node) (word : List ℕ) → IsWord node word → subsection_block which.Authorize node ≡ None
+  no_subsection node word e = rw (e, subsection_block) refl
+
+  abbrev parts : List Statement → ℕ → Parts
+  parts statements room = record { statements = statements; subsections = []; room = room }
+
+  part_ok : (known : Parts) (node : Node) (word : List ℕ) (more : Option Statement) → IsWord node word → statement_at site which.Authorize known.room node ≡ Ok more
+      → with_part site which.Authorize known node ≡ Ok (with_one which.Authorize node known more)
+  unfolding with_part
+  part_ok known node word more spelled e = rw (no_subsection node word spelled, with_part) (rw e refl)
+
+  abbrev parts_from : List Statement → ℕ → List Node → Result Parts TreeFault
+  parts_from statements room nodes = after_each (with_part site which.Authorize) (parts statements room) nodes
+
+  part_step : (known next : Parts) (node : Node) (rest : List Node) → with_part site which.Authorize known node ≡ Ok next
+      → after_each (with_part site which.Authorize) known (node ∷ rest) ≡ after_each (with_part site which.Authorize) next rest
+  unfolding after_each
+  part_step known next node rest e = rw e refl
+
+  no_parts : (known : Parts) → after_each (with_part site which.Authorize) known [] ≡ Ok known
+  unfolding after_each
+  no_parts known = refl
+
+  abbrev read_as : List Statement → ℕ → Result Parts TreeFault
+  read_as statements room = Ok (parts statements room)
+
+  one_call : (room : ℕ) (known : List Statement) (node : Node) (nodes : List Node) (word : List ℕ) (s : Statement) (calls : List Statement) → IsWord node word
+      → statement_at site which.Authorize room node ≡ Ok (Some s) → length (s ∷ calls) ≤ room
+      → parts_from (known ++ s ∷ []) (room - 1) nodes ≡ read_as ((known ++ s ∷ []) ++ calls) (room - 1 - length calls)
+      → parts_from known room (node ∷ nodes) ≡ read_as (known ++ s ∷ calls) (room - length (s ∷ calls))
+  one_call room known node nodes word s calls spelled e within rest =
+      let same : (known ++ s ∷ []) ++ calls ≡ known ++ s ∷ calls = simp append_assoc in
+      let left : room - 1 - length calls ≡ room - length (s ∷ calls) = omega (arith, within) in
+      part_step (parts known room) (parts (known ++ s ∷ []) (room - 1)) node nodes (part_ok (parts known room) node word (Some s) spelled e)
+      ∙ rest ∙ ap (λ k. read_as k (room - 1 - length calls)) same ∙ ap (λ r. read_as (known ++ s ∷ calls) r) left
+
+  parts_read : (room : ℕ) (known : List Statement) (nodes : List Node) (calls : List Statement) → Spell site which.Authorize nodes calls → length calls ≤ room
+      → parts_from known room nodes ≡ read_as (known ++ calls) (room - length calls)
+  parts_read room known _ _ nothing within =
+      let left : room ≡ room - 0 = omega arith in
+      no_parts (parts known room) ∙ ap (λ k. read_as k room) (sym (append-nil known)) ∙ ap (λ r. read_as (known ++ []) r) left
+  parts_read room known _ _ (by_name node nodes calls name number spelled plain free callable more) within =
+      one_call room known node nodes name (call_from node number) calls spelled
+      (statement_of_name site which.Authorize room node name number spelled plain free callable (omega (arith, within))) within
+      (parts_read (room - 1) (known ++ call_from node number ∷ []) nodes calls more (omega (arith, within)))
+  parts_read room known _ _ (by_dash node nodes calls name number spelled free callable more) within =
+      one_call room known node nodes (45 ∷ name) (call_from node number) calls spelled
+      (statement_of_optional site which.Authorize room node name number spelled free callable (omega (arith, within))) within
+      (parts_read (room - 1) (known ++ call_from node number ∷ []) nodes calls more (omega (arith, within)))
+  parts_read room known _ _ (passed_over node nodes calls name spelled free none more) within =
+      part_step (parts known room) (parts known room) node nodes (part_ok (parts known room) node (45 ∷ name) None spelled (statement_of_absent site which.Authorize room node name spelled free none))
+      ∙ parts_read room known nodes calls more within
+
   authorize_read : (known : Known) (nodes : List Node) (calls : List Statement) → Spell site which.Authorize nodes calls → length calls ≤ known.room
-      → with_authorize site known nodes ≡ Ok (record { sections = known.sections ++ authorize_of calls ∷ []; room = known.room - length calls })
-  unfolding with_authorize
-  authorize_read known nodes calls spelled within =
-      ap (λ r. r >>= λ (statements : List Statement). Ok (let next : Known = record { sections = known.sections ++ authorize_of statements ∷ []; room = known.room - length statements } in next))
-      (calls_read site which.Authorize known.room nodes calls spelled within)
+      → with_section site known which.Authorize nodes ≡ Ok (record { sections = known.sections ++ authorize_of calls ∷ []; room = known.room - length calls })
+  unfolding with_section
+  authorize_read known nodes calls spelled within = rw (parts_read known.room [] nodes calls spelled within) refl
 
   item_read : (known : Known) (node : Node) (nodes : List Node) (calls : List Statement) → IsBlock node (codes "authorize") None nodes
       → Spell site which.Authorize nodes calls → length calls ≤ known.room
       → with_item site known node ≡ Ok (record { sections = known.sections ++ authorize_of calls ∷ []; room = known.room - length calls })
-  unfolding with_item with_section
+  unfolding with_item
   item_read known node nodes calls e spelled within = rw (section_read node nodes e, with_item) (authorize_read known nodes calls spelled within)
 
   server_read : (name : List ℕ) (node : Node) (nodes : List Node) (calls : List Statement) → IsBlock node (codes "authorize") None nodes

@@ -1,10 +1,12 @@
 pub mod Instances
 pub mod Readings
 pub mod Words
+pub mod Actions
 pub mod Calls
 pub mod Updates
 pub mod Sites
 pub mod Statements
 pub mod Sections
 pub mod Policies
+pub mod EachCall
 pub mod Written

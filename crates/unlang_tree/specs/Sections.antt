@@ -1,7 +1,7 @@
--- The sections of a virtual server, and the subsections of authenticate. After the manual pages radiusd.conf(5) and unlang(5).
-use Rattle.std.specs.Prelude.{ℕ, ◌-◌, List, [], ◌∷◌, ◌++◌, length, Option, Some, None, option_map, Result, Ok, Err, codes, if◌then◌else◌}
-use Rattle.std.specs.Str.{bytes_eq, str_eq_ignore_ascii_case}
-use Rattle.rad_outside.specs.declared.files.Place.{Place}
+-- The sections of a virtual server, and the subsections of authenticate and post-auth. After the manual pages radiusd.conf(5)
+-- and unlang(5).
+use Rattle.std.specs.Prelude.{ℕ, Bool, ◌-◌, List, [], ◌∷◌, ◌++◌, length, Option, Some, None, option_map, Result, Ok, Err, codes, if◌then◌else◌}
+use Rattle.std.specs.Str.{str_eq_ignore_ascii_case}
 use Rattle.rad_conf.specs.declared.tree.Node.{Node}
 use Rattle.rad_conf.specs.declared.tree.Item.{out-Item}
 use Rattle.rad_conf.specs.declared.tree.Item.TheOpen as level
@@ -9,7 +9,6 @@ use Rattle.rad_words.specs.declared.sections.Section.{Section}
 use Rattle.rad_words.specs.declared.sections.Section.TheVariants as section
 use Rattle.rad_text.specs.Read.{◌>>=◌}
 use Rattle.unlang_tree.specs.declared.fault.TreeFault.{TreeFault}
-use Rattle.unlang_tree.specs.declared.fault.TreeFault.TheVariants as fault
 use Rattle.unlang_tree.specs.declared.statement.Statement.{Statement}
 use Rattle.unlang_tree.specs.declared.policies.Subsection.{Subsection}
 use Rattle.unlang_tree.specs.declared.policies.SectionTree.{SectionTree}
@@ -22,30 +21,44 @@ use Rattle.unlang_tree.specs.Words.{section_of}
 use Rattle.unlang_tree.specs.Calls.{called_name}
 use Rattle.unlang_tree.specs.Statements.{statement_at, statements_of}
 
--- The name and the nodes of a subsection, `Auth-Type NAME { .. }`.
-abbrev pub subsection_block : Node → Option (List ℕ × List Node)
-subsection_block node = elim (out-Item node.item) [
+-- The word that begins a subsection of a section; nothing where it has none.
+abbrev pub subsection_word : Section → List ℕ
+subsection_word section.Authorize = []
+subsection_word section.Authenticate = codes "Auth-Type"
+subsection_word section.Session = []
+subsection_word section.Preacct = []
+subsection_word section.Accounting = []
+subsection_word section.PostAuth = codes "Post-Auth-Type"
+
+-- Whether a block's kind begins a subsection of a section.
+abbrev pub is_subsection : Section → List ℕ → Bool
+is_subsection where_it_stands kind = str_eq_ignore_ascii_case kind (subsection_word where_it_stands)
+
+-- The name and the nodes of a subsection, `Auth-Type NAME { .. }` in authenticate and `Post-Auth-Type NAME { .. }` in post-auth.
+abbrev pub subsection_block : Section → Node → Option (List ℕ × List Node)
+subsection_block where_it_stands node = elim (out-Item node.item) [
   | level.Pair left operator right ↦ None
   | level.Name word ↦ None
   | level.Block kind None body ↦ None
-  | level.Block kind (Some name) body ↦ if str_eq_ignore_ascii_case kind.text (codes "Auth-Type") then Some (name.text, body) else None
+  | level.Block kind (Some name) body ↦ if is_subsection where_it_stands kind.text then Some (name.text, body) else None
 ]
 
 -- The subsections with one more, whose statements are these nodes.
-unfoldable pub with_subsection : Site → Parts → List ℕ → List Node → Result Parts TreeFault
-with_subsection site known name body =
-    statements_of site section.Authenticate known.room body
+unfoldable pub with_subsection : Site → Section → Parts → List ℕ → List Node → Result Parts TreeFault
+with_subsection site where_it_stands known name body =
+    statements_of site where_it_stands known.room body
     >>= λ statements. Ok (record {
+      statements = known.statements;
       subsections = known.subsections ++ record { name = name; statements = statements } ∷ [];
       room = known.room - length statements;
     })
 
--- The name of the subsection that a word alone stands for: a call `x` is `Auth-Type x { x }`.
+-- The name of the subsection that a plain call directly in authenticate stands for: a call `x` is `Auth-Type x { x }`.
 abbrev pub own_name : Node → Option (List ℕ)
 own_name node = elim (out-Item node.item) [
   | level.Pair left operator right ↦ None
   | level.Name word ↦ Some (called_name word.text)
-  | level.Block kind name body ↦ None
+  | level.Block kind name body ↦ if str_eq_ignore_ascii_case kind.text (codes "update") then None else Some (called_name kind.text)
 ]
 
 -- The subsections with a call that stands for one. Another statement is counted, and is never run.
@@ -53,20 +66,38 @@ abbrev pub with_call : Option (List ℕ) → Statement → List Subsection → L
 with_call None statement subsections = subsections
 with_call (Some name) statement subsections = subsections ++ record { name = name; statements = statement ∷ [] } ∷ []
 
-unfoldable pub with_own : Node → Parts → Option Statement → Parts
-with_own node known None = known
-with_own node known (Some statement) =
-    record { subsections = with_call (own_name node) statement known.subsections; room = known.room - 1 }
+-- The parts with a statement that runs with the section.
+abbrev pub with_run : Parts → Statement → Parts
+with_run known statement = record { statements = known.statements ++ statement ∷ []; subsections = known.subsections; room = known.room - 1 }
 
--- What is known of authenticate after one more of its nodes: a subsection, or a statement that stands alone.
-unfoldable pub with_part : Site → Parts → Node → Result Parts TreeFault
-with_part site known node = elim (subsection_block node) [
-  | Some block ↦ with_subsection site known block.0 block.1
-  | None ↦ statement_at site section.Authenticate known.room node >>= λ statement. Ok (with_own node known statement)
+-- The parts with a statement directly in authenticate.
+abbrev pub with_own : Node → Parts → Statement → Parts
+with_own node known statement =
+    record { statements = known.statements; subsections = with_call (own_name node) statement known.subsections; room = known.room - 1 }
+
+-- The parts with a statement directly in a section, where it counts as written.
+abbrev pub with_written : Section → Node → Parts → Statement → Parts
+with_written section.Authorize node known statement = with_run known statement
+with_written section.Authenticate node known statement = with_own node known statement
+with_written section.Session node known statement = with_run known statement
+with_written section.Preacct node known statement = with_run known statement
+with_written section.Accounting node known statement = with_run known statement
+with_written section.PostAuth node known statement = with_run known statement
+
+abbrev pub with_one : Section → Node → Parts → Option Statement → Parts
+with_one where_it_stands node known None = known
+with_one where_it_stands node known (Some statement) = with_written where_it_stands node known statement
+
+-- What is known of a section after one more of its nodes: a subsection, or a statement.
+unfoldable pub with_part : Site → Section → Parts → Node → Result Parts TreeFault
+with_part site where_it_stands known node = elim (subsection_block where_it_stands node) [
+  | Some block ↦ with_subsection site where_it_stands known block.0 block.1
+  | None ↦ statement_at site where_it_stands known.room node >>= λ statement. Ok (with_one where_it_stands node known statement)
 ]
 
-abbrev pub parts_of : Site → ℕ → List Node → Result Parts TreeFault
-parts_of site room body = after_each (with_part site) (record { subsections = []; room = room }) body
+abbrev pub parts_of : Site → Section → ℕ → List Node → Result Parts TreeFault
+parts_of site where_it_stands room body =
+    after_each (with_part site where_it_stands) (record { statements = []; subsections = []; room = room }) body
 
 -- The section and the nodes of a server's item, which is a block of that section's name.
 abbrev pub section_block : Node → Option (Section × List Node)
@@ -76,38 +107,20 @@ section_block node = elim (out-Item node.item) [
   | level.Block kind name body ↦ option_map (λ found. (found, body)) (section_of kind.text)
 ]
 
--- What is known of a server after its section authorize.
-unfoldable pub with_authorize : Site → Known → List Node → Result Known TreeFault
-with_authorize site known body =
-    statements_of site section.Authorize known.room body
-    >>= λ statements. Ok (record {
-      sections = known.sections ++ record { section = section.Authorize; statements = statements; subsections = [] } ∷ [];
-      room = known.room - length statements;
-    })
-
--- The same after its section authenticate, of which the subsections alone are run.
-unfoldable pub with_authenticate : Site → Known → List Node → Result Known TreeFault
-with_authenticate site known body =
-    parts_of site known.room body
+-- What is known of a server after one more section. Of authenticate the subsections alone are run.
+unfoldable pub with_section : Site → Known → Section → List Node → Result Known TreeFault
+with_section site known where_it_stands body =
+    parts_of site where_it_stands known.room body
     >>= λ parts. Ok (record {
-      sections = known.sections ++ record { section = section.Authenticate; statements = []; subsections = parts.subsections } ∷ [];
+      sections = known.sections ++ record { section = where_it_stands; statements = parts.statements; subsections = parts.subsections } ∷ [];
       room = parts.room;
     })
-
--- What is known of a server after one more section. The others aren't built yet.
-unfoldable pub with_section : Site → Known → Place → Section → List Node → Result Known TreeFault
-with_section site known place section.Authorize body = with_authorize site known body
-with_section site known place section.Authenticate body = with_authenticate site known body
-with_section site known place section.Session body = Err (fault.NotBuilt place)
-with_section site known place section.Preacct body = Err (fault.NotBuilt place)
-with_section site known place section.Accounting body = Err (fault.NotBuilt place)
-with_section site known place section.PostAuth body = Err (fault.NotBuilt place)
 
 -- The same after one more item. What is no section is passed over.
 unfoldable pub with_item : Site → Known → Node → Result Known TreeFault
 with_item site known node = elim (section_block node) [
   | None ↦ Ok known
-  | Some block ↦ with_section site known node.place block.0 block.1
+  | Some block ↦ with_section site known block.0 block.1
 ]
 
 -- The server of a name, with these items.

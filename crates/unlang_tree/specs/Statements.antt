@@ -18,6 +18,7 @@ use Rattle.unlang_tree.specs.Sites.{Site}
 use Rattle.unlang_tree.specs.Readings.{one_more, after_each}
 use Rattle.unlang_tree.specs.Words.{is_one_of, later_words, later_blocks}
 use Rattle.unlang_tree.specs.Calls.{call_at}
+use Rattle.unlang_tree.specs.Actions.{overrides_of}
 use Rattle.unlang_tree.specs.Updates.{update_at}
 
 -- The statement that is a call, where the server has room for so many more; none where the call counts as not written.
@@ -39,16 +40,19 @@ is_pair node = elim (out-Item node.item) [
   | level.Block kind name body ↦ false
 ]
 
--- A call with actions of its own, `name { code = action .. }`, isn't built yet; one that counts as not written is passed over.
-unfoldable pub with_actions : Place → Option Call → Result (Option Statement) TreeFault
-with_actions place None = Ok None
-with_actions place (Some call) = Err (fault.NotBuilt place)
+-- A call with actions of its own, `name { code = action .. }`; one that counts as not written is passed over.
+unfoldable pub with_actions : ℕ → Place → List Node → Option Call → Result (Option Statement) TreeFault
+with_actions room place pairs None = Ok None
+with_actions room place pairs (Some call) = do
+  counted ← one_more room place
+  overrides ← overrides_of pairs
+  Ok (Some (record { place = place; kind = kinds.Call (record { instance = call.instance; overrides = overrides }) }))
 
 -- A block of a kind that is no keyword: a call with actions of its own, where it has no name and only pairs in it.
-unfoldable pub call_block_at : Site → Section → Place → List ℕ → Option Word → List Node → Result (Option Statement) TreeFault
-call_block_at site section place kind name body =
+unfoldable pub call_block_at : Site → Section → ℕ → Place → List ℕ → Option Word → List Node → Result (Option Statement) TreeFault
+call_block_at site section room place kind name body =
     if is_some name || not (list_all is_pair body) then Err (fault.UnknownKeyword place)
-    else (call_at site.root site.instances section place kind >>= λ call. with_actions place call)
+    else (call_at site.root site.instances section place kind >>= λ call. with_actions room place body call)
 
 -- An update, where the server has room for so many statements more.
 abbrev pub update_statement : Site → ℕ → Place → Option Word → List Node → Result (Option Statement) TreeFault
@@ -61,7 +65,7 @@ block_at site section room place kind name body =
     if str_eq_ignore_ascii_case kind (codes "update")
     then update_statement site room place name body
     else (if is_one_of later_blocks kind then Err (fault.NotBuilt place)
-    else call_block_at site section place kind name body)
+    else call_block_at site section room place kind name body)
 
 -- The statement of a node, where the server has room for so many more; none where it counts as not written. A pair is none.
 unfoldable pub statement_at : Site → Section → ℕ → Node → Result (Option Statement) TreeFault

@@ -1,7 +1,7 @@
 //! The laws of policies, in the words of whoever writes them. They are facts about the definitions, and the functions do
 //! nothing.
 
-ghost use Rattle.std.specs.Prelude.{◌≡◌, ℕ, ◌≤◌, List, [], ◌∷◌, ◌++◌, length, codes, Some, None, Ok, Err};
+ghost use Rattle.std.specs.Prelude.{◌≡◌, Bool, true, ℕ, ◌≤◌, List, [], ◌∷◌, ◌++◌, length, codes, Some, None, Ok, Err};
 ghost use Rattle.rad_conf.specs.declared.tree.Node.{Node};
 ghost use Rattle.rad_conf.specs.declared.tree.Word.{Word};
 ghost use Rattle.rad_words.specs.declared.sections.Section.{Section as AnySection};
@@ -9,6 +9,9 @@ ghost use Rattle.unlang_tree.specs.declared.statement.Statement.{Statement as An
 ghost use Rattle.unlang_tree.specs.Sites.{Site};
 ghost use Rattle.unlang_tree.specs.Statements.{statements_of};
 ghost use Rattle.unlang_tree.specs.Policies.{servers_of};
+ghost use Rattle.unlang_tree.specs.declared.statement.Call.{Call as AnyCall};
+ghost use Rattle.unlang_tree.specs.declared.policies.ServerTree.{ServerTree};
+ghost use Rattle.unlang_tree.specs.EachCall.{EachCall, EachCallOf, IsMet, Passes};
 ghost use Rattle.unlang_tree.specs.Written.{IsBlock, Spell, IsUnknown};
 
 use crate::fault::TreeFault;
@@ -37,4 +40,19 @@ pub fn a_written_site_is_read()
         → site.root ≡ server ∷ [] → IsBlock server (codes "server") (Some name) (authorize ∷ []) → IsBlock authorize (codes "authorize") None nodes
         → Spell site Section.Authorize nodes calls → length calls ≤ 65536
         → servers_of site ≡ Ok (record { name = name.text; sections = record { section = Section.Authorize; statements = calls; subsections = [] } ∷ [] } ∷ []) }
+{}
+
+/// In the policies of a configuration each call is of an instance that is there and has a method for the section in which
+/// the call stands.
+pub fn each_call_can_be_made()
+    ensures { (site : Site) (servers : List ServerTree) → servers_of site ≡ Ok servers → EachCallOf (IsMet site.instances) servers }
+{}
+
+/// What is so of each call of policies is so of each where something wider is asked: among the statements of one section, and
+/// among those of servers. The test may look at the section in which the call stands.
+pub fn what_holds_of_each_call_can_be_widened()
+    ensures statements { (test wider : AnySection → AnyCall → Bool) → ((section : AnySection) (call : AnyCall) → test section call ≡ true → wider section call ≡ true)
+        → (section : AnySection) (statements : List AnyStatement) → EachCall (Passes test) section statements → EachCall (Passes wider) section statements }
+    ensures servers { (test wider : AnySection → AnyCall → Bool) → ((section : AnySection) (call : AnyCall) → test section call ≡ true → wider section call ≡ true)
+        → (servers : List ServerTree) → EachCallOf (Passes test) servers → EachCallOf (Passes wider) servers }
 {}

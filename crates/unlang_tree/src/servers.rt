@@ -4,19 +4,16 @@ ghost use Rattle.std.specs.Prelude.{◌≡◌, [], ◌∷◌, ◌++◌, OnOk, If
 ghost use Rattle.std.specs.Option.{option_map};
 ghost use Rattle.unlang_tree.specs.Readings.{Gives, Leaves, most_statements, after_each};
 ghost use Rattle.unlang_tree.specs.Sites.{site_of};
-ghost use Rattle.unlang_tree.specs.Sections.{section_block, with_authorize, with_authenticate, with_section, with_item, server_of};
+ghost use Rattle.unlang_tree.specs.Sections.{section_block, with_section, with_item, server_of};
 ghost use Rattle.unlang_tree.specs.Policies.{server_block, with_server, servers_of};
 
 use crate::fault::TreeFault;
-use crate::policies::{SectionTree, Sections, ServerTree, Subsections};
-use crate::refusal::{Wrong, refuse};
+use crate::policies::{SectionTree, Sections, ServerTree};
 use crate::site::SiteRef;
-use crate::statement::Statements;
-use crate::statements::statements_of;
 use crate::subsections::parts_of;
 use crate::words::section_of;
 use rad_conf::{Item, Node};
-use rad_outside::{Octets, Place};
+use rad_outside::Octets;
 use rad_words::Section;
 use sqlite_items::Items;
 use std::alloc::Global;
@@ -45,65 +42,25 @@ fn section_block(node: &Node) -> Option<(Section, &[Node])>
     }
 }
 
-/// What is known after a section authorize. After a fault it is given up.
-#[tactic(auto, unfolding(crate::specs::Sections::with_authorize))]
-fn with_authorize(
-    alloc: Global,
-    site: &SiteRef<'_>,
-    known: &mut Known,
-    body: &[Node],
-) -> Result<(), TreeFault>
-    ensures { Leaves result (with_authorize (site_of site.now) known.old body.now) known.new }
-{
-    let statements = statements_of(alloc, site, Section::Authorize, known.room, body)?;
-    known.room = known.room.saturating_sub(statements.len());
-    known.sections.push(SectionTree {
-        section: Section::Authorize,
-        statements,
-        subsections: Subsections::new(alloc),
-    })?;
-    Ok(())
-}
-
-/// What is known after a section authenticate. After a fault it is given up.
-#[tactic(auto, unfolding(crate::specs::Sections::with_authenticate))]
-fn with_authenticate(
-    alloc: Global,
-    site: &SiteRef<'_>,
-    known: &mut Known,
-    body: &[Node],
-) -> Result<(), TreeFault>
-    ensures { Leaves result (with_authenticate (site_of site.now) known.old body.now) known.new }
-{
-    let parts = parts_of(alloc, site, known.room, body)?;
-    known.room = parts.room;
-    known.sections.push(SectionTree {
-        section: Section::Authenticate,
-        statements: Statements::new(alloc),
-        subsections: parts.subsections,
-    })?;
-    Ok(())
-}
-
 /// What is known after one more section. After a fault it is given up.
 #[tactic(auto, unfolding(crate::specs::Sections::with_section))]
 fn with_section(
     alloc: Global,
     site: &SiteRef<'_>,
     known: &mut Known,
-    place: &Place,
     section: Section,
     body: &[Node],
 ) -> Result<(), TreeFault>
-    ensures { Leaves result (with_section (site_of site.now) known.old place.now section body.now) known.new }
+    ensures { Leaves result (with_section (site_of site.now) known.old section body.now) known.new }
 {
-    match section {
-        Section::Authorize => with_authorize(alloc, site, known, body),
-        Section::Authenticate => with_authenticate(alloc, site, known, body),
-        Section::Session | Section::Preacct | Section::Accounting | Section::PostAuth => {
-            refuse(alloc, place, Wrong::NotBuilt)
-        }
-    }
+    let parts = parts_of(alloc, site, section, known.room, body)?;
+    known.room = parts.room;
+    known.sections.push(SectionTree {
+        section,
+        statements: parts.statements,
+        subsections: parts.subsections,
+    })?;
+    Ok(())
 }
 
 /// What is known after one more item. After a fault it is given up.
@@ -118,7 +75,7 @@ fn with_item(
 {
     match section_block(node) {
         None => Ok(()),
-        Some((section, body)) => with_section(alloc, site, known, &node.place, section, body),
+        Some((section, body)) => with_section(alloc, site, known, section, body),
     }
 }
 

@@ -6,6 +6,7 @@ ghost use Rattle.unlang_tree.specs.Readings.{Gives, Leaves, after_each};
 ghost use Rattle.unlang_tree.specs.Sites.{site_of};
 ghost use Rattle.unlang_tree.specs.Statements.{counted_call, word_at, is_pair, with_actions, call_block_at, update_statement, block_at, statement_at, and_also, with_statement, statements_of};
 
+use crate::actions::overrides_of;
 use crate::calls::call_at;
 use crate::fault::TreeFault;
 use crate::refusal::{Wrong, one_more, refuse};
@@ -81,19 +82,27 @@ fn are_pairs(nodes: &[Node]) -> bool
     nodes.iter().all(is_pair)
 }
 
-/// A call with actions of its own isn't built yet; one that counts as not written is passed over.
+/// A call with actions of its own; one that counts as not written is passed over.
 #[tactic(auto, unfolding(crate::specs::Statements::with_actions))]
 fn with_actions(
     alloc: Global,
+    room: usize,
     place: &Place,
+    pairs: &[Node],
     call: Option<Call>,
 ) -> Result<Option<Statement>, TreeFault>
-    ensures { Gives result (with_actions place.now call) }
+    ensures { Gives result (with_actions room place.now pairs.now call) }
 {
-    match call {
-        None => Ok(None),
-        Some(_) => refuse(alloc, place, Wrong::NotBuilt),
-    }
+    let Some(call) = call else {
+        return Ok(None);
+    };
+    one_more(alloc, room, place)?;
+    let overrides = overrides_of(alloc, pairs)?;
+    let call = Call {
+        instance: call.instance,
+        overrides,
+    };
+    Ok(Some(statement(alloc, place, StatementKind::Call(call))?))
 }
 
 /// A block of a kind that is no keyword.
@@ -102,18 +111,19 @@ fn call_block_at(
     alloc: Global,
     site: &SiteRef<'_>,
     section: Section,
+    room: usize,
     place: &Place,
     kind: &[u8],
     name: &Option<Word>,
     body: &[Node],
 ) -> Result<Option<Statement>, TreeFault>
-    ensures { Gives result (call_block_at (site_of site.now) section place.now kind.now name.now body.now) }
+    ensures { Gives result (call_block_at (site_of site.now) section room place.now kind.now name.now body.now) }
 {
     if name.is_some() || !are_pairs(body) {
         return refuse(alloc, place, Wrong::UnknownKeyword);
     }
     let call = call_at(alloc, site.root, site.instances, section, place, kind)?;
-    with_actions(alloc, place, call)
+    with_actions(alloc, room, place, body, call)
 }
 
 /// An update, as a statement.
@@ -150,7 +160,7 @@ fn block_at(
     } else if is_later_block(kind) {
         refuse(alloc, place, Wrong::NotBuilt)
     } else {
-        call_block_at(alloc, site, section, place, kind, name, body)
+        call_block_at(alloc, site, section, room, place, kind, name, body)
     }
 }
 

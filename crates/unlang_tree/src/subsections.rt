@@ -1,10 +1,10 @@
-//! The subsections of a section authenticate.
+//! The nodes of a section: its statements, and its subsections.
 
 ghost use Rattle.std.specs.Prelude.{◌≡◌, [], OnOk};
 ghost use Rattle.std.specs.Option.{option_map, option_copied};
 ghost use Rattle.unlang_tree.specs.Readings.{Gives, Leaves};
 ghost use Rattle.unlang_tree.specs.Sites.{site_of};
-ghost use Rattle.unlang_tree.specs.Sections.{subsection_block, with_subsection, own_name, with_call, with_own, with_part, parts_of};
+ghost use Rattle.unlang_tree.specs.Sections.{subsection_word, is_subsection, subsection_block, with_subsection, own_name, with_call, with_run, with_own, with_written, with_one, with_part, parts_of};
 
 use crate::calls::called_name;
 use crate::fault::TreeFault;
@@ -17,16 +17,35 @@ use rad_outside::{NoMemory, Octets};
 use rad_words::Section;
 use std::alloc::Global;
 
-/// What is known of a section authenticate: its subsections, and how many statements more the server has room for.
+/// What is known of a section: its statements, its subsections, and how many statements more the server has room for.
 #[derive(Debug, Drop)]
 pub struct Parts {
+    pub statements: Statements,
     pub subsections: Subsections,
     pub room: usize,
 }
 
+/// The word that begins a subsection of a section; nothing where it has none.
+fn subsection_word(section: Section) -> &'static [u8]
+    ensures { result.now ≡ subsection_word section }
+{
+    match section {
+        Section::Authenticate => b"Auth-Type",
+        Section::PostAuth => b"Post-Auth-Type",
+        Section::Authorize | Section::Session | Section::Preacct | Section::Accounting => b"",
+    }
+}
+
+/// Whether a block's kind begins a subsection of a section.
+fn is_subsection(section: Section, kind: &[u8]) -> bool
+    ensures { result ≡ is_subsection section kind.now }
+{
+    kind.eq_ignore_ascii_case(subsection_word(section))
+}
+
 /// The name and the nodes of a subsection.
-fn subsection_block(node: &Node) -> Option<(&[u8], &[Node])>
-    ensures { option_map (λ block. (block.0.now, block.1.now)) result ≡ subsection_block node.now }
+fn subsection_block(section: Section, node: &Node) -> Option<(&[u8], &[Node])>
+    ensures { option_map (λ block. (block.0.now, block.1.now)) result ≡ subsection_block section node.now }
 {
     match &node.item {
         Item::Pair(_, _, _) => None,
@@ -34,7 +53,7 @@ fn subsection_block(node: &Node) -> Option<(&[u8], &[Node])>
         Item::Block(kind, name, body) => match name {
             None => None,
             Some(name) => {
-                if kind.text.as_slice().eq_ignore_ascii_case(b"Auth-Type") {
+                if is_subsection(section, kind.text.as_slice()) {
                     Some((name.text.as_slice(), body.as_slice()))
                 } else {
                     None
@@ -49,27 +68,34 @@ fn subsection_block(node: &Node) -> Option<(&[u8], &[Node])>
 fn with_subsection(
     alloc: Global,
     site: &SiteRef<'_>,
+    section: Section,
     known: &mut Parts,
     name: &[u8],
     body: &[Node],
 ) -> Result<(), TreeFault>
-    ensures { Leaves result (with_subsection (site_of site.now) known.old name.now body.now) known.new }
+    ensures { Leaves result (with_subsection (site_of site.now) section known.old name.now body.now) known.new }
 {
-    let statements = statements_of(alloc, site, Section::Authenticate, known.room, body)?;
+    let statements = statements_of(alloc, site, section, known.room, body)?;
     let name = Octets::of(alloc, name)?;
     known.room = known.room.saturating_sub(statements.len());
     known.subsections.push(Subsection { name, statements })?;
     Ok(())
 }
 
-/// The name of the subsection that a word alone stands for.
+/// The name of the subsection that a plain call directly in authenticate stands for.
 fn own_name(node: &Node) -> Option<&[u8]>
     ensures { option_copied result ≡ own_name node.now }
 {
     match &node.item {
         Item::Pair(_, _, _) => None,
         Item::Name(word) => Some(called_name(word.text.as_slice())),
-        Item::Block(_, _, _) => None,
+        Item::Block(kind, _, _) => {
+            if kind.text.as_slice().eq_ignore_ascii_case(b"update") {
+                None
+            } else {
+                Some(called_name(kind.text.as_slice()))
+            }
+        }
     }
 }
 
@@ -92,21 +118,62 @@ fn push_call(
     Ok(())
 }
 
-/// What is known after a statement that stands alone.
-#[tactic(auto, unfolding(crate::specs::Sections::with_own))]
+/// The parts with a statement that runs with the section.
+fn with_run(known: &mut Parts, statement: Statement) -> Result<(), NoMemory>
+    ensures { OnOk result (known.new ≡ with_run known.old statement) }
+{
+    known.room = known.room.saturating_sub(1);
+    known.statements.push(statement)?;
+    Ok(())
+}
+
+/// The parts with a statement directly in authenticate.
 fn with_own(
     alloc: Global,
     node: &Node,
     known: &mut Parts,
-    statement: Option<Statement>,
+    statement: Statement,
 ) -> Result<(), NoMemory>
     ensures { OnOk result (known.new ≡ with_own node.now known.old statement) }
 {
-    let Some(statement) = statement else {
-        return Ok(());
-    };
     known.room = known.room.saturating_sub(1);
     push_call(alloc, own_name(node), statement, &mut known.subsections)
+}
+
+/// The parts with a statement directly in a section.
+fn with_written(
+    alloc: Global,
+    section: Section,
+    node: &Node,
+    known: &mut Parts,
+    statement: Statement,
+) -> Result<(), NoMemory>
+    ensures { OnOk result (known.new ≡ with_written section node.now known.old statement) }
+{
+    match section {
+        Section::Authenticate => with_own(alloc, node, known, statement),
+        Section::Authorize
+        | Section::Session
+        | Section::Preacct
+        | Section::Accounting
+        | Section::PostAuth => with_run(known, statement),
+    }
+}
+
+/// The parts with a statement directly in a section, where it counts as written.
+fn with_one(
+    alloc: Global,
+    section: Section,
+    node: &Node,
+    known: &mut Parts,
+    statement: Option<Statement>,
+) -> Result<(), NoMemory>
+    ensures { OnOk result (known.new ≡ with_one section node.now known.old statement) }
+{
+    match statement {
+        None => Ok(()),
+        Some(statement) => with_written(alloc, section, node, known, statement),
+    }
 }
 
 /// What is known after one more node. After a fault it is given up.
@@ -114,34 +181,37 @@ fn with_own(
 fn with_part(
     alloc: Global,
     site: &SiteRef<'_>,
+    section: Section,
     known: &mut Parts,
     node: &Node,
 ) -> Result<(), TreeFault>
-    ensures { Leaves result (with_part (site_of site.now) known.old node.now) known.new }
+    ensures { Leaves result (with_part (site_of site.now) section known.old node.now) known.new }
 {
-    if let Some((name, body)) = subsection_block(node) {
-        return with_subsection(alloc, site, known, name, body);
+    if let Some((name, body)) = subsection_block(section, node) {
+        return with_subsection(alloc, site, section, known, name, body);
     }
-    let statement = statement_at(alloc, site, Section::Authenticate, known.room, node)?;
-    with_own(alloc, node, known, statement)?;
+    let statement = statement_at(alloc, site, section, known.room, node)?;
+    with_one(alloc, section, node, known, statement)?;
     Ok(())
 }
 
-/// What is known of a section authenticate by its nodes.
+/// What is known of a section by its nodes.
 pub(crate) fn parts_of(
     alloc: Global,
     site: &SiteRef<'_>,
+    section: Section,
     room: usize,
     body: &[Node],
 ) -> Result<Parts, TreeFault>
-    ensures { Gives result (parts_of (site_of site.now) room body.now) }
+    ensures { Gives result (parts_of (site_of site.now) section room body.now) }
 {
     let mut known = Parts {
+        statements: Statements::new(alloc),
         subsections: Subsections::new(alloc),
         room,
     };
     for node in body {
-        with_part(alloc, site, &mut known, node)?;
+        with_part(alloc, site, section, &mut known, node)?;
     }
     Ok(known)
 }
