@@ -9,7 +9,7 @@ use Rattle.rad_core.specs.declared.installed.Installed.{Installed}
 use Rattle.rad_core.specs.declared.installed.Installed.TheVariants as installed
 use Rattle.rad_core.specs.declared.machine.Core.{Core}
 use Rattle.rad_core.specs.declared.started.StartAnswer.{StartAnswer}
-use Rattle.rad_core.specs.declared.started.StartAnswer.TheVariants.{Dropped, Fresh, NoRoom}
+use Rattle.rad_core.specs.declared.started.StartAnswer.TheVariants.{Dropped, Repeat, Busy, Full, Fresh, NoRoom}
 use Rattle.rad_core.specs.State.{ServerState, opening, at_moment, with_request}
 use Rattle.rad_core.specs.Entry.{Entry, Start, Finish, Install, Look, Stop, worker_of}
 use Rattle.rad_core.specs.Step.{May, after, after_start, after_install, run, Step}
@@ -19,6 +19,9 @@ use Rattle.rad_core.proofs.Histories.{run-append, IsLegal-append}
 
 started_entries : {P : Type 0} (state : ServerState P) (arrival : Arrived) (answer : StartAnswer) → (after_start state arrival answer).entries ≡ state.entries
 started_entries state arrival (Dropped cause) = refl
+started_entries state arrival (Repeat octets) = refl
+started_entries state arrival (Busy place) = refl
+started_entries state arrival (Full count) = refl
 started_entries state arrival NoRoom = refl
 started_entries {P} state arrival (Fresh place) =
     elim state.present as (λ (o : Option P). let s : ServerState P = elim o [ None ↦ state | Some g ↦ with_request place arrival g state ] in s.entries ≡ state.entries) [

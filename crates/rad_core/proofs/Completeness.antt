@@ -7,7 +7,7 @@ use Rattle.rad_policy.specs.declared.arrival.Arrived.{Arrived}
 use Rattle.rad_policy.specs.declared.ending.Ending.{Ending}
 use Rattle.rad_policy.specs.declared.ending.Ending.TheVariants.{Sent, Withheld, OutOfMemory}
 use Rattle.rad_core.specs.declared.started.StartAnswer.{StartAnswer}
-use Rattle.rad_core.specs.declared.started.StartAnswer.TheVariants.{Dropped, Fresh, NoRoom}
+use Rattle.rad_core.specs.declared.started.StartAnswer.TheVariants.{Dropped, Repeat, Busy, Full, Fresh, NoRoom}
 use Rattle.rad_policy.specs.Policy.{Meaning}
 use Rattle.rad_core.specs.State.{ServerState}
 use Rattle.rad_core.specs.Entry.{Entry, Start, Finish, Install, Look, Stop}
@@ -60,8 +60,14 @@ module _ {P F : Type 0} (meaning : Meaning P F) where
       let same : may.1.0 ≡ taken.0 = cc in
       absurd (cause_without_authentic cause arrival.bytes (meaning.client may.1.0 arrival.from.addr) arrival.kind may.1.2
       (subst (λ (generation : P). IsAuthentic arrival.bytes (meaning.client generation arrival.from.addr) arrival.kind) (sym same) taken.2))
-  one_reply before arrival NoRoom later may followed taken = inr (inr refl)
-  one_reply before arrival (Fresh place) later may followed taken = next_ends arrival place later followed
+  one_reply before arrival (Repeat octets) later may followed taken = inl (octets, refl)
+  one_reply before arrival (Busy place) later may followed taken = inr (inl tt)
+  one_reply before arrival (Full count) later may followed taken = inr (inl tt)
+  one_reply before arrival NoRoom later may followed taken = inr (inr (inr refl))
+  one_reply before arrival (Fresh place) later may followed taken = elim (next_ends arrival place later followed) [
+    | inl replies ↦ inl replies
+    | inr none ↦ inr (inr none)
+  ]
 
   -- each arrival of entries that may come, each fresh start with its finish
   pub each_one_reply : (mine : List (Placed P F)) → AllByRecursion (MayAt meaning) mine → IsClosed mine → EachHasOneReply meaning mine

@@ -4,7 +4,7 @@ use Rattle.std.specs.List.{AllByRecursion}
 use Rattle.rad_policy.specs.declared.arrival.Arrived.{Arrived}
 use Rattle.rad_policy.specs.declared.ending.Ending.{Ending}
 use Rattle.rad_core.specs.declared.started.StartAnswer.{StartAnswer}
-use Rattle.rad_core.specs.declared.started.StartAnswer.TheVariants.{Dropped, Fresh, NoRoom}
+use Rattle.rad_core.specs.declared.started.StartAnswer.TheVariants.{Dropped, Repeat, Busy, Full, Fresh, NoRoom}
 use Rattle.rad_policy.specs.Policy.{Meaning}
 use Rattle.rad_core.specs.State.{ServerState, at_moment}
 use Rattle.rad_core.specs.Entry.{Entry, Start, Finish, Install, Look, Stop, worker_of}
@@ -79,6 +79,9 @@ ending_of-next place (At before (Stop worker) ∷ xs) ys next = absurd next
 
 pub replies_of-next : {P F : Type 0} (arrival : Arrived) (answer : StartAnswer) (xs ys : List (Placed P F)) → IsFollowed answer xs → replies_of arrival answer (xs ++ ys) ≡ replies_of arrival answer xs
 replies_of-next arrival (Dropped cause) xs ys next = refl
+replies_of-next arrival (Repeat octets) xs ys next = refl
+replies_of-next arrival (Busy place) xs ys next = refl
+replies_of-next arrival (Full count) xs ys next = refl
 replies_of-next arrival NoRoom xs ys next = refl
 replies_of-next arrival (Fresh place) xs ys next = ap (reply_of arrival) (ending_of-next place xs ys next)
 
@@ -103,6 +106,9 @@ BeginsWithFinish-append place (At before (Stop worker) ∷ xs) ys next = absurd 
 
 IsFollowed-append : {P F : Type 0} (answer : StartAnswer) (xs ys : List (Placed P F)) → IsFollowed answer xs → IsFollowed answer (xs ++ ys)
 IsFollowed-append (Dropped cause) xs ys next = tt
+IsFollowed-append (Repeat octets) xs ys next = tt
+IsFollowed-append (Busy place) xs ys next = tt
+IsFollowed-append (Full count) xs ys next = tt
 IsFollowed-append NoRoom xs ys next = tt
 IsFollowed-append (Fresh place) xs ys next = BeginsWithFinish-append place xs ys next
 
@@ -117,6 +123,9 @@ IsClosed-append (At before (Stop worker) ∷ xs) ys closed more = IsClosed-appen
 
 HasOutcome-append : {P F : Type 0} (meaning : Meaning P F) (before : ServerState P) (arrival : Arrived) (luck : ℕ) (answer : StartAnswer) (xs ys : List (Placed P F)) → IsFollowed answer xs → HasOutcome meaning before arrival luck answer xs → HasOutcome meaning before arrival luck answer (xs ++ ys)
 HasOutcome-append meaning before arrival luck (Dropped cause) xs ys next has = tt
+HasOutcome-append meaning before arrival luck (Repeat octets) xs ys next has = tt
+HasOutcome-append meaning before arrival luck (Busy place) xs ys next has = tt
+HasOutcome-append meaning before arrival luck (Full count) xs ys next has = tt
 HasOutcome-append meaning before arrival luck NoRoom xs ys next has = tt
 HasOutcome-append {P} meaning before arrival luck (Fresh place) xs ys next has =
     subst (λ (ending : Option Ending). HasEnding meaning before arrival luck ending) (sym (ending_of-next place xs ys next)) has

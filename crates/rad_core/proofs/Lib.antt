@@ -1,4 +1,9 @@
 pub mod Rows
+pub mod Firsts
+pub mod Keys
+pub mod Keeping
+pub mod Repeating
+pub mod Stemming
 pub mod Histories
 pub mod Turns
 pub mod Completeness

@@ -1,23 +1,37 @@
 -- What one datagram's way through the core adds to the history.
-use Rattle.std.proofs.Common.{ℕ, ◌≡◌, ◌==◌, List, [], ◌∷◌, ◌++◌, Bool, cond, not, filter, Option, Some, None, refl, ap, sym, ◌∙◌, subst, append-nil, ◌+◌, add_assoc}
+use Rattle.std.proofs.Common.{ℕ, ◌≡◌, ◌==◌, List, [], ◌∷◌, ◌++◌, Bool, true, cond, not, take, drop, Option, Some, None, refl, ap, sym, ◌∙◌, subst, append-nil, ◌+◌, add_assoc}
 use Rattle.std.specs.List.{Contains}
 use Rattle.std.specs.Arc.{arc_value}
 use Rattle.std.proofs.lemmas.List.Elements.{Contains-push}
-use Rattle.rad_packet.specs.declared.cause.DropCause.{DropCause}
 use Rattle.rad_policy.specs.declared.arrival.Arrived.{Arrived}
 use Rattle.rad_policy.specs.declared.ending.Ending.{Ending}
 use Rattle.rad_policy.specs.declared.ending.Ending.TheVariants.{Sent, Withheld, OutOfMemory}
 use Rattle.rad_policy.specs.declared.outcome.Outcome.{Outcome}
-use Rattle.rad_core.specs.declared.started.StartAnswer.TheVariants.{Dropped, Fresh, NoRoom}
+use Rattle.rad_core.specs.declared.started.StartAnswer.{StartAnswer}
+use Rattle.rad_core.specs.declared.started.StartAnswer.TheVariants.{Dropped, Repeat, Busy, Full, Fresh, NoRoom}
 use Rattle.rad_core.specs.declared.started.Ticket.{Ticket}
 use Rattle.rad_policy.specs.Policy.{Meaning}
-use Rattle.rad_core.specs.State.{ServerState, InProgress, at_moment, with_request}
+use Rattle.rad_core.specs.State.{ServerState, at_moment, with_request}
+use Rattle.rad_core.specs.Requests.{InProgress, Requests, without_place}
 use Rattle.rad_core.specs.Entry.{Entry, Start, Finish}
-use Rattle.rad_core.specs.Step.{after, run, IsLegal, Step, Gives}
+use Rattle.rad_core.specs.Step.{after, after_start, run, IsLegal, Step, Gives}
 use Rattle.rad_policy.specs.Seen.{ending_seen, GivesOutcome}
 use Rattle.rad_core.specs.Answers.{IsHeld}
-use Rattle.rad_core.specs.Worker.{reply_of, IsOutcome, Passes}
+use Rattle.rad_core.specs.Worker.{At, Answer, reply_of, IsOutcome, IsTurn, Passes}
 use Rattle.rad_core.proofs.Histories.{same_place}
+
+-- without its one request nothing is in progress
+alone_leaves : {P : Type 0} (row : InProgress P) (place : ℕ) → (row.place == place) ≡ true → without_place place (row ∷ []) ≡ []
+alone_leaves {P} row place at = ap (λ (b : Bool). take (cond (not b) (1 + 0) 0) (row ∷ []) ++ drop (cond (not b) (1 + 0) 0 + 1) (row ∷ [])) at
+
+-- the answer is neither that of a fresh request nor a reply
+abbrev pub IsUnanswered : StartAnswer → Type 0
+IsUnanswered (Dropped cause) = Unit {0}
+IsUnanswered (Repeat octets) = ⊥
+IsUnanswered (Busy place) = Unit {0}
+IsUnanswered (Full count) = Unit {0}
+IsUnanswered NoRoom = Unit {0}
+IsUnanswered (Fresh place) = ⊥
 
 module _ {P F : Type 0} (meaning : Meaning P F) where
   -- the row of a fresh request
@@ -30,9 +44,9 @@ module _ {P F : Type 0} (meaning : Meaning P F) where
   }
 
   -- a fresh request stands behind the others
-  pub fresh_table : (state : ServerState P) (arrival : Arrived) (place : ℕ) (generation : P) → state.present ≡ Some generation → (after meaning state (Start arrival (Fresh place))).table ≡ state.table ++ row_for state arrival place generation ∷ []
+  pub fresh_table : (state : ServerState P) (arrival : Arrived) (place : ℕ) (generation : P) → state.present ≡ Some generation → (after meaning state (Start arrival (Fresh place))).table.in_progress ≡ state.table.in_progress ++ row_for state arrival place generation ∷ []
   fresh_table state arrival place generation present =
-      ap (λ (o : Option P). let s : ServerState P = elim o [ None ↦ at_moment arrival.now state | Some g ↦ with_request place arrival g (at_moment arrival.now state) ] in s.table) present
+      ap (λ (o : Option P). let s : ServerState P = elim o [ None ↦ at_moment arrival.now state | Some g ↦ with_request place arrival g (at_moment arrival.now state) ] in s.table.in_progress) present
 
   -- the moment after the start of a fresh request
   pub moment_after : (state mid : ServerState P) (arrival : Arrived) (place : ℕ) (generation : P) → state.present ≡ Some generation → Step meaning state (Start arrival (Fresh place)) mid → mid.moment ≡ (at_moment arrival.now state).moment
@@ -55,10 +69,10 @@ module _ {P F : Type 0} (meaning : Meaning P F) where
       ap (λ (s : ServerState P). s.present) step.next ∙ present_after old arrival place step.may.1.0 step.may.1.1
 
   -- where nothing was in progress, nothing is after its finish
-  pub idle_again : (state : ServerState P) (arrival : Arrived) (worker place : ℕ) (generation : P) (ending : Ending) → state.table ≡ [] → state.present ≡ Some generation → (run meaning state (Start arrival (Fresh place) ∷ Finish worker place ending ∷ [])).table ≡ []
+  pub idle_again : (state : ServerState P) (arrival : Arrived) (worker place : ℕ) (generation : P) (ending : Ending) → state.table.in_progress ≡ [] → state.present ≡ Some generation → (run meaning state (Start arrival (Fresh place) ∷ Finish worker place ending ∷ [])).table.in_progress ≡ []
   idle_again state arrival worker place generation ending idle present =
-      ap (filter (λ (row : InProgress P). not (row.place == place))) (fresh_table state arrival place generation present ∙ ap (λ rows. rows ++ row_for state arrival place generation ∷ []) idle)
-      ∙ ap (λ b. cond (not b) (row_for state arrival place generation ∷ []) []) (same_place place place refl)
+      ap (without_place place) (fresh_table state arrival place generation present ∙ ap (λ rows. rows ++ row_for state arrival place generation ∷ []) idle)
+      ∙ alone_leaves (row_for state arrival place generation) place (same_place place place refl)
 
   -- one step is a legal history
   pub one_step : (old new : ServerState P) (entry : Entry P F) → Step meaning old entry new → IsLegal meaning old (entry ∷ []) × (new ≡ run meaning old (entry ∷ []))
@@ -69,37 +83,42 @@ module _ {P F : Type 0} (meaning : Meaning P F) where
       subst (λ (s : ServerState P). Step meaning s next new → IsLegal meaning old (entry ∷ next ∷ []) × (new ≡ run meaning old (entry ∷ next ∷ []))) (sym first.next)
       (λ (step : Step meaning (after meaning old entry) next new). ((first.may, (step.may, tt)), step.next)) second
 
-  -- a datagram that is dropped gets no reply
-  pub passes_dropped : (old new : ServerState P) (arrival : Arrived) (luck : ℕ) (cause : DropCause) → old.table ≡ [] → Step meaning old (Start arrival (Dropped cause)) new → Passes meaning old new (Start arrival (Dropped cause) ∷ []) arrival luck []
-  passes_dropped old new arrival luck cause idle step = record {
-    legal = (one_step old new (Start arrival (Dropped cause)) step).0;
+  -- a datagram that isn't fresh adds its start alone
+  passes_alone : (old new : ServerState P) (arrival : Arrived) (luck : ℕ) (answer : StartAnswer) (replies : List Answer) → old.table.in_progress ≡ [] → Step meaning old (Start arrival answer) new
+      → after_start (at_moment arrival.now old) arrival answer ≡ at_moment arrival.now old
+      → IsTurn meaning arrival luck replies (At old (Start arrival answer) ∷ [])
+      → Passes meaning old new (Start arrival answer ∷ []) arrival luck replies
+  passes_alone old new arrival luck answer replies idle step same turn = record {
+    legal = (one_step old new (Start arrival answer) step).0;
     next = step.next;
-    idle = ap (λ (s : ServerState P). s.table) step.next ∙ idle;
-    present = ap (λ (s : ServerState P). s.present) step.next;
-    count = ap (λ (s : ServerState P). s.entries) step.next;
-    turn = record { serves = refl; asks = refl; answers = refl; closed = (tt, tt); outcome = (tt, refl); service = (refl, tt) };
+    idle = ap (λ (s : ServerState P). s.table.in_progress) step.next ∙ ap (λ (s : ServerState P). s.table.in_progress) same ∙ idle;
+    present = ap (λ (s : ServerState P). s.present) step.next ∙ ap (λ (s : ServerState P). s.present) same;
+    count = ap (λ (s : ServerState P). s.entries) step.next ∙ ap (λ (s : ServerState P). s.entries + 1) same;
+    turn = turn;
     named = (refl, tt);
   }
 
-  pub passes_no_room : (old new : ServerState P) (arrival : Arrived) (luck : ℕ) → old.table ≡ [] → Step meaning old (Start arrival NoRoom) new → Passes meaning old new (Start arrival NoRoom ∷ []) arrival luck []
-  passes_no_room old new arrival luck idle step = record {
-    legal = (one_step old new (Start arrival NoRoom) step).0;
-    next = step.next;
-    idle = ap (λ (s : ServerState P). s.table) step.next ∙ idle;
-    present = ap (λ (s : ServerState P). s.present) step.next;
-    count = ap (λ (s : ServerState P). s.entries) step.next;
-    turn = record { serves = refl; asks = refl; answers = refl; closed = (tt, tt); outcome = (tt, refl); service = (refl, tt) };
-    named = (refl, tt);
-  }
+  -- what gets no reply
+  pub passes_unanswered : (old new : ServerState P) (arrival : Arrived) (luck : ℕ) (answer : StartAnswer) → IsUnanswered answer → old.table.in_progress ≡ [] → Step meaning old (Start arrival answer) new → Passes meaning old new (Start arrival answer ∷ []) arrival luck []
+  passes_unanswered old new arrival luck (Dropped cause) un idle step = passes_alone old new arrival luck (Dropped cause) [] idle step refl (record { serves = refl; asks = refl; answers = refl; closed = (tt, tt); outcome = (tt, refl); service = (refl, tt) })
+  passes_unanswered old new arrival luck (Repeat octets) un idle step = absurd un
+  passes_unanswered old new arrival luck (Busy place) un idle step = passes_alone old new arrival luck (Busy place) [] idle step refl (record { serves = refl; asks = refl; answers = refl; closed = (tt, tt); outcome = (tt, refl); service = (refl, tt) })
+  passes_unanswered old new arrival luck (Full count) un idle step = passes_alone old new arrival luck (Full count) [] idle step refl (record { serves = refl; asks = refl; answers = refl; closed = (tt, tt); outcome = (tt, refl); service = (refl, tt) })
+  passes_unanswered old new arrival luck NoRoom un idle step = passes_alone old new arrival luck NoRoom [] idle step refl (record { serves = refl; asks = refl; answers = refl; closed = (tt, tt); outcome = (tt, refl); service = (refl, tt) })
+  passes_unanswered old new arrival luck (Fresh place) un idle step = absurd un
+
+  -- a repeat gets the octets that were kept
+  pub passes_repeat : (old new : ServerState P) (arrival : Arrived) (luck : ℕ) (octets : List ℕ) → old.table.in_progress ≡ [] → Step meaning old (Start arrival (Repeat octets)) new → Passes meaning old new (Start arrival (Repeat octets) ∷ []) arrival luck (record { to = arrival.from; octets = octets } ∷ [])
+  passes_repeat old new arrival luck octets idle step = passes_alone old new arrival luck (Repeat octets) (record { to = arrival.from; octets = octets } ∷ []) idle step refl (record { serves = refl; asks = refl; answers = refl; closed = (tt, tt); outcome = (tt, refl); service = (refl, tt) })
 
   -- a fresh request and its finish
-  pub passes_fresh : (old mid new : ServerState P) (arrival : Arrived) (luck place : ℕ) (ending : Ending) (generation : P) → old.table ≡ [] → old.present ≡ Some generation → IsOutcome meaning generation arrival (at_moment arrival.now old).moment luck (Some ending) → Step meaning old (Start arrival (Fresh place)) mid → Step meaning mid (Finish arrival.worker place ending) new → Passes meaning old new (Start arrival (Fresh place) ∷ Finish arrival.worker place ending ∷ []) arrival luck (reply_of arrival (Some ending))
+  pub passes_fresh : (old mid new : ServerState P) (arrival : Arrived) (luck place : ℕ) (ending : Ending) (generation : P) → old.table.in_progress ≡ [] → old.present ≡ Some generation → IsOutcome meaning generation arrival (at_moment arrival.now old).moment luck (Some ending) → Step meaning old (Start arrival (Fresh place)) mid → Step meaning mid (Finish arrival.worker place ending) new → Passes meaning old new (Start arrival (Fresh place) ∷ Finish arrival.worker place ending ∷ []) arrival luck (reply_of arrival (Some ending))
   passes_fresh old mid new arrival luck place ending generation idle present given first second =
       let steps = two_steps old mid new (Start arrival (Fresh place)) (Finish arrival.worker place ending) first second in
       record {
         legal = steps.0;
         next = steps.1;
-        idle = ap (λ (s : ServerState P). s.table) steps.1 ∙ idle_again old arrival arrival.worker place generation ending idle present;
+        idle = ap (λ (s : ServerState P). s.table.in_progress) steps.1 ∙ idle_again old arrival arrival.worker place generation ending idle present;
         present = ap (λ (s : ServerState P). s.present) steps.1 ∙ present_after old arrival place generation present;
         count = ap (λ (s : ServerState P). s.entries) steps.1 ∙ count_after old arrival place generation present;
         turn = record {
@@ -123,13 +142,13 @@ module _ {P F : Type 0} (meaning : Meaning P F) where
   pub held_after_start : (old mid : ServerState P) (arrival : Arrived) (ticket : Ticket P) (luck : ℕ) (outcome : Outcome) → old.present ≡ Some (arc_value ticket.generation) → mid.moment ≡ ticket.moment → Step meaning old (Start arrival (Fresh ticket.place)) mid → GivesOutcome meaning (arc_value ticket.generation) arrival ticket.moment luck outcome → IsHeld meaning mid ticket arrival.worker (ending_seen outcome)
   held_after_start old mid arrival ticket luck outcome present moment step given =
       let row : InProgress P = record { place = ticket.place; arrival = arrival; generation = arc_value ticket.generation; moment = ticket.moment } in
-      let table : mid.table ≡ old.table ++ row ∷ [] =
-      ap (λ (s : ServerState P). s.table) step.next ∙ fresh_table old arrival ticket.place (arc_value ticket.generation) present
-      ∙ ap (λ m. old.table ++ record { place = ticket.place; arrival = arrival; generation = arc_value ticket.generation; moment = m } ∷ []) (sym (moment_after old mid arrival ticket.place (arc_value ticket.generation) present step) ∙ moment) in
+      let table : mid.table.in_progress ≡ old.table.in_progress ++ row ∷ [] =
+      ap (λ (s : ServerState P). s.table.in_progress) step.next ∙ fresh_table old arrival ticket.place (arc_value ticket.generation) present
+      ∙ ap (λ m. old.table.in_progress ++ record { place = ticket.place; arrival = arrival; generation = arc_value ticket.generation; moment = m } ∷ []) (sym (moment_after old mid arrival ticket.place (arc_value ticket.generation) present step) ∙ moment) in
       record {
         may = record {
           row = row;
-          there = subst (λ (rows : List (InProgress P)). Contains rows row) (sym table) (Contains-push old.table row);
+          there = subst (λ (rows : List (InProgress P)). Contains rows row) (sym table) (Contains-push old.table.in_progress row);
           place_is = refl;
           worker_is = refl;
           luck = luck;

@@ -1,5 +1,5 @@
 -- How the core's Rust values are seen in the history. This project's own.
-use Rattle.std.specs.Prelude.{ℕ, ◌≡◌, Some, Result, Ok, Err}
+use Rattle.std.specs.Prelude.{ℕ, ◌≡◌, ◌≤◌, List, take, Some, Result, Ok, Err}
 use Rattle.std.specs.Arc.{arc_value}
 use Rattle.std.specs.declared.sync.Arc.{Arc}
 use Rattle.std.specs.declared.alloc.Global.{Global}
@@ -12,14 +12,26 @@ use Rattle.rad_policy.specs.Policy.{Meaning}
 use Rattle.rad_core.specs.State.{ServerState, with_request}
 use Rattle.rad_policy.specs.declared.ending.Ending.{Ending}
 use Rattle.rad_core.specs.declared.started.StartAnswer.{StartAnswer}
-use Rattle.rad_core.specs.declared.started.StartAnswer.TheVariants.{Dropped, Fresh, NoRoom}
+use Rattle.rad_core.specs.declared.started.StartAnswer.TheVariants.{Dropped, Repeat, Busy, Full, Fresh, NoRoom}
 use Rattle.rad_core.specs.Step.{MayFinish}
 
--- A start's answer: of a ticket, its place.
-abbrev pub answer_seen : {P : Type 0} → Started P → StartAnswer
-answer_seen (started.Dropped cause) = Dropped cause
-answer_seen (started.Fresh ticket) = Fresh ticket.place
-answer_seen started.NoMemory = NoRoom
+-- A start's answer, with the buffer that it left: of a ticket its place, and of a repeat the octets at the buffer's front.
+abbrev pub answer_seen : {P : Type 0} → Started P → List ℕ → StartAnswer
+answer_seen (started.Dropped cause) buffer = Dropped cause
+answer_seen (started.Repeat count) buffer = Repeat (take count buffer)
+answer_seen (started.Busy place) buffer = Busy place
+answer_seen (started.Full count) buffer = Full count
+answer_seen (started.Fresh ticket) buffer = Fresh ticket.place
+answer_seen started.NoMemory buffer = NoRoom
+
+-- What a start's answer leaves in the buffer: a repeat's reply fits, and every other answer leaves all as it was.
+abbrev pub FillsBuffer : {P : Type 0} → Started P → List ℕ → List ℕ → Type 0
+FillsBuffer (started.Dropped cause) before after = after ≡ before
+FillsBuffer (started.Repeat count) before after = count ≤ 4096
+FillsBuffer (started.Busy place) before after = after ≡ before
+FillsBuffer (started.Full count) before after = after ≡ before
+FillsBuffer (started.Fresh ticket) before after = after ≡ before
+FillsBuffer started.NoMemory before after = after ≡ before
 
 -- A load: of a shared generation, the generation.
 abbrev pub load_seen : {P F : Type 0} → Result (Arc P Global) F → Result P F
@@ -31,6 +43,9 @@ abbrev pub IsTicketOf : {P : Type 0} → ServerState P → Started P → Type 0
 IsTicketOf state (started.Fresh ticket) =
     (state.present ≡ Some (arc_value ticket.generation)) × (state.moment ≡ ticket.moment) × (IsInTime ticket.moment)
 IsTicketOf state (started.Dropped cause) = Unit {0}
+IsTicketOf state (started.Repeat count) = Unit {0}
+IsTicketOf state (started.Busy place) = Unit {0}
+IsTicketOf state (started.Full count) = Unit {0}
 IsTicketOf state started.NoMemory = Unit {0}
 
 -- The request is put into the table under a ticket, whose place is the number of entries so far.

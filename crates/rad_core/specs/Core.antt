@@ -1,19 +1,9 @@
 -- The state that a core keeps. This project's own.
-use Rattle.std.specs.Prelude.{ℕ, List, map}
+use Rattle.std.specs.Prelude.{ℕ, List}
 use Rattle.std.specs.Option.{option_map}
 use Rattle.std.specs.Arc.{arc_value}
-use Rattle.rad_core.specs.declared.row.Row.{Row}
 use Rattle.rad_core.specs.declared.machine.Core.{Core}
-use Rattle.rad_core.specs.State.{ServerState, InProgress}
-
--- A row of the table, without where its generation lies.
-abbrev pub row_seen : {P : Type 0} → Row P → InProgress P
-row_seen row = record {
-  place = row.place;
-  arrival = row.arrival;
-  generation = arc_value row.generation;
-  moment = row.moment;
-}
+use Rattle.rad_core.specs.State.{ServerState}
 
 -- The state.
 abbrev pub state_of : {P L : Type 0} → Core P L → ServerState P
@@ -23,7 +13,7 @@ state_of core = record {
   moment = core.moment;
   is_stopped = core.is_stopped;
   entries = core.entries;
-  table = map row_seen core.table.items;
+  table = core.table;
 }
 
 -- The session log.

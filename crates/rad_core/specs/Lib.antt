@@ -1,5 +1,7 @@
 pub use Rattle.rad_policy.specs.Policy
 pub use Rattle.rad_policy.specs.Seen
+pub mod Requests
+pub mod Rows
 pub mod State
 pub mod Entry
 pub mod Step
@@ -8,3 +10,4 @@ pub mod Completeness
 pub mod Answers
 pub mod Core
 pub mod Behind
+pub mod Keeping

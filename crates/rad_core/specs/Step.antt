@@ -1,40 +1,49 @@
 -- Which entries may come next, and the state after them. This project's own; requests after RFC 2865 section 2.
-use Rattle.std.specs.Prelude.{ℕ, ◌≡◌, ◌+◌, ◌⊎◌, List, [], ◌∷◌, Option, Some, None, Result, Ok, Err, Bool, true, if◌then◌else◌, All, Contains}
+use Rattle.std.specs.Prelude.{ℕ, ◌≡◌, ◌≤◌, ◌<◌, ◌+◌, ◌⊎◌, List, [], ◌∷◌, Option, Some, None, Result, Ok, Err, Bool, true, if◌then◌else◌, Contains}
 use Rattle.rad_outside.specs.declared.listen.Listen.{Listen}
 use Rattle.rad_outside.specs.declared.listen.ListenKind.TheVariants.{Auth, Acct, Control}
 use Rattle.rad_packet.specs.declared.cause.DropCause.{DropCause}
-use Rattle.rad_packet.specs.Packet.{packet_of}
 use Rattle.rad_packet.specs.Authentic.{IsFirstCause}
 use Rattle.rad_policy.specs.declared.arrival.Arrived.{Arrived}
 use Rattle.rad_core.specs.declared.installed.Installed.{Installed}
 use Rattle.rad_core.specs.declared.installed.Installed.TheVariants as installed
 use Rattle.rad_policy.specs.Policy.{Meaning, IsAuthenticUnder, GivesEnding}
-use Rattle.rad_core.specs.State.{ServerState, InProgress, at_moment, counted, with_request, without_request, after_stop, seen_of}
+use Rattle.rad_core.specs.State.{ServerState, at_moment, counted, with_request, after_stop, seen_of}
+use Rattle.rad_core.specs.Requests.{InProgress, key_of, size_of, reply_for, place_for, reply_in, without_request}
 use Rattle.rad_policy.specs.declared.ending.Ending.{Ending}
 use Rattle.rad_core.specs.declared.started.StartAnswer.{StartAnswer}
-use Rattle.rad_core.specs.declared.started.StartAnswer.TheVariants.{Dropped, Fresh, NoRoom}
+use Rattle.rad_core.specs.declared.started.StartAnswer.TheVariants.{Dropped, Repeat, Busy, Full, Fresh, NoRoom}
 use Rattle.rad_core.specs.Entry.{Entry, Start, Finish, Install, Look, Stop}
 
--- Two arrivals are the same request: one listener, one source, one packet.
-pub record IsSameRequest (a b : Arrived) : Type 0 where
-  pub listener : a.listener ≡ b.listener
-  pub source : a.from ≡ b.from
-  pub packet : packet_of a.bytes ≡ packet_of b.bytes
+-- No reply is kept for this arrival's key, and no request in progress has it.
+pub record IsNew {P : Type 0} (state : ServerState P) (arrival : Arrived) : Type 0 where
+  pub unkept : reply_for (key_of arrival) state.table ≡ None
+  pub unrun : place_for (key_of arrival) state.table ≡ None
 
--- No request in progress is the same as this one.
-abbrev pub IsNew : {P : Type 0} → ServerState P → Arrived → Type 0
-IsNew {P} state arrival = All (λ (row : InProgress P). ¬ IsSameRequest row.arrival arrival) state.table
+-- A fresh request is due: the datagram is authentic and new, and the table has room under the generation's limit.
+pub record IsDue {P F : Type 0} (meaning : Meaning P F) (state : ServerState P) (generation : P) (arrival : Arrived) : Type 0 where
+  pub authentic : IsAuthenticUnder meaning generation arrival
+  pub fresh : IsNew state arrival
+  pub room : size_of state.table < meaning.max_requests generation
 
 -- A start, in the state after the moment rule, under the present generation: it is dropped exactly for the first
--- cause, it is fresh exactly where the datagram is authentic, and its place is the number of entries before it.
--- Want of memory comes only where it was due to be fresh.
+-- cause; else it is a repeat exactly where a reply is kept for its key, else busy exactly where a request in progress has
+-- it, else full exactly where the table has at least as many entries as the generation allows; and else fresh, and its
+-- place is the number of entries before it. Want of memory comes only where it was due to be fresh.
 abbrev pub MayStart : {P F : Type 0} → Meaning P F → ServerState P → P → Arrived → StartAnswer → Type 0
 MayStart meaning state generation arrival (Dropped cause) =
     IsFirstCause cause arrival.bytes (meaning.client generation arrival.from.addr) arrival.kind
-MayStart meaning state generation arrival (Fresh place) =
-    IsAuthenticUnder meaning generation arrival × IsNew state arrival × (place ≡ state.entries)
-MayStart meaning state generation arrival NoRoom =
+MayStart meaning state generation arrival (Repeat octets) =
+    IsAuthenticUnder meaning generation arrival × (reply_for (key_of arrival) state.table ≡ Some octets)
+MayStart meaning state generation arrival (Busy place) =
+    IsAuthenticUnder meaning generation arrival × (reply_for (key_of arrival) state.table ≡ None)
+    × (place_for (key_of arrival) state.table ≡ Some place)
+MayStart meaning state generation arrival (Full count) =
     IsAuthenticUnder meaning generation arrival × IsNew state arrival
+    × (count ≡ size_of state.table) × (meaning.max_requests generation ≤ count)
+MayStart meaning state generation arrival (Fresh place) =
+    IsDue meaning state generation arrival × (place ≡ state.entries)
+MayStart meaning state generation arrival NoRoom = IsDue meaning state generation arrival
 
 -- Under the present generation the datagram is dropped for this first cause.
 abbrev pub IsDroppedFor : {P F : Type 0} → Meaning P F → ServerState P → Arrived → DropCause → Type 0
@@ -54,7 +63,7 @@ Gives meaning row luck answers ending = GivesEnding meaning row.generation row.a
 -- generation and the moment of its place, for some luck word and answers.
 pub record MayFinish {P F : Type 0} (meaning : Meaning P F) (state : ServerState P) (worker place : ℕ) (ending : Ending) : Type 0 where
   pub row : InProgress P
-  pub there : Contains state.table row
+  pub there : Contains state.table.in_progress row
   pub place_is : row.place ≡ place
   pub worker_is : row.arrival.worker ≡ worker
   pub luck : ℕ
@@ -102,6 +111,9 @@ May meaning state (Stop worker) = Unit {0}
 -- The state after a start.
 abbrev pub after_start : {P : Type 0} → ServerState P → Arrived → StartAnswer → ServerState P
 after_start state arrival (Dropped cause) = state
+after_start state arrival (Repeat octets) = state
+after_start state arrival (Busy place) = state
+after_start state arrival (Full count) = state
 after_start state arrival NoRoom = state
 after_start state arrival (Fresh place) = elim state.present [
   | None ↦ state
@@ -114,6 +126,13 @@ pub record Judges {P F : Type 0} (meaning : Meaning P F) (old : ServerState P) (
   pub present : old.present ≡ Some generation
   pub may : MayStart meaning old generation arrival answer
   pub next : new ≡ after_start old arrival answer
+
+-- The state after a finish: the request is in progress no more, and its reply is kept, where it has one, for as many
+-- seconds from this state's moment on as the request's own generation says.
+abbrev pub after_finish : {P F : Type 0} → Meaning P F → ServerState P → ℕ → Ending → ServerState P
+after_finish meaning state place ending = record state {
+  table = without_request meaning.cleanup_delay state.moment place (reply_in ending) state.table;
+}
 
 -- The state after an install.
 abbrev pub after_install : {P F : Type 0} → ServerState P → Result P F → Installed F → ServerState P
@@ -129,7 +148,7 @@ after_install state (Err fault) (installed.Refused told) = state
 abbrev pub after : {P F : Type 0} → Meaning P F → ServerState P → Entry P F → ServerState P
 after meaning state (Start arrival answer) =
     counted (after_start (at_moment arrival.now state) arrival answer)
-after meaning state (Finish worker place ending) = counted (without_request place state)
+after meaning state (Finish worker place ending) = counted (after_finish meaning state place ending)
 after meaning state (Install worker load listeners answer) = counted (after_install state load answer)
 after meaning state (Look worker seen) = counted state
 after meaning state (Stop worker) = counted (after_stop state)

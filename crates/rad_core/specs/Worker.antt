@@ -6,7 +6,7 @@ use Rattle.rad_policy.specs.declared.arrival.Arrived.{Arrived}
 use Rattle.rad_policy.specs.declared.ending.Ending.{Ending}
 use Rattle.rad_policy.specs.declared.ending.Ending.TheVariants.{Sent, Withheld, OutOfMemory}
 use Rattle.rad_core.specs.declared.started.StartAnswer.{StartAnswer}
-use Rattle.rad_core.specs.declared.started.StartAnswer.TheVariants.{Dropped, Fresh, NoRoom}
+use Rattle.rad_core.specs.declared.started.StartAnswer.TheVariants.{Dropped, Repeat, Busy, Full, Fresh, NoRoom}
 use Rattle.rad_policy.specs.Policy.{Meaning}
 use Rattle.rad_core.specs.State.{ServerState, at_moment}
 use Rattle.rad_core.specs.Entry.{Entry, Start, Finish, Install, Look, Stop, worker_of}
@@ -69,9 +69,13 @@ reply_of arrival (Some (Sent octets)) = record { to = arrival.from; octets = oct
 reply_of arrival (Some Withheld) = []
 reply_of arrival (Some OutOfMemory) = []
 
--- The replies that a start leads to: those of the ending of its place.
+-- The replies that a start leads to: of a repeat the octets that were kept, of a fresh one those of the ending of its
+-- place.
 abbrev pub replies_of : {P F : Type 0} → Arrived → StartAnswer → List (Placed P F) → List Answer
 replies_of arrival (Dropped cause) later = []
+replies_of arrival (Repeat octets) later = record { to = arrival.from; octets = octets } ∷ []
+replies_of arrival (Busy place) later = []
+replies_of arrival (Full count) later = []
 replies_of arrival NoRoom later = []
 replies_of arrival (Fresh place) later = reply_of arrival (ending_of place later)
 
@@ -96,6 +100,9 @@ BeginsWithFinish place (At before (Stop worker) ∷ more) = ⊥
 -- What has to follow a start: after a fresh one its finish comes next.
 abbrev pub IsFollowed : {P F : Type 0} → StartAnswer → List (Placed P F) → Type 0
 IsFollowed (Dropped cause) later = Unit {0}
+IsFollowed (Repeat octets) later = Unit {0}
+IsFollowed (Busy place) later = Unit {0}
+IsFollowed (Full count) later = Unit {0}
 IsFollowed NoRoom later = Unit {0}
 IsFollowed (Fresh place) later = BeginsWithFinish place later
 
@@ -117,9 +124,12 @@ IsOutcome meaning generation arrival moment luck (Some ending) =
     × Gives meaning (record { place = 0; arrival = arrival; generation = generation; moment = moment }) luck answers ending
 
 -- What a start's outcome has to be: that of a fresh one is what the policy means for the arrival under the
--- generation and the moment of its place.
+-- generation and the moment of its place. No other one has an outcome, since no policy is run for it.
 abbrev pub HasOutcome : {P F : Type 0} → Meaning P F → ServerState P → Arrived → ℕ → StartAnswer → List (Placed P F) → Type 0
 HasOutcome meaning before arrival luck (Dropped cause) later = Unit {0}
+HasOutcome meaning before arrival luck (Repeat octets) later = Unit {0}
+HasOutcome meaning before arrival luck (Busy place) later = Unit {0}
+HasOutcome meaning before arrival luck (Full count) later = Unit {0}
 HasOutcome meaning before arrival luck NoRoom later = Unit {0}
 HasOutcome {P} meaning before arrival luck (Fresh place) later =
     (generation : P) × (before.present ≡ Some generation)
@@ -165,7 +175,7 @@ IsOwn worker entry = worker_of entry ≡ worker
 pub record Passes {P F : Type 0} (meaning : Meaning P F) (old new : ServerState P) (added : List (Entry P F)) (arrival : Arrived) (luck : ℕ) (replies : List Answer) : Type 0 where
   pub legal : IsLegal meaning old added
   pub next : new ≡ run meaning old added
-  pub idle : new.table ≡ []
+  pub idle : new.table.in_progress ≡ []
   pub present : new.present ≡ old.present
   pub count : new.entries ≡ old.entries + length added
   pub named : AllByRecursion (IsOwn arrival.worker) added

@@ -21,7 +21,7 @@ impl<P: Policy, L> Core<P, L> {
                 None => 0,
             },
             sessions: 0,
-            requests: u32::try_from(self.table.len()).unwrap_or(u32::MAX),
+            requests: self.table.len(),
             stopped: self.is_stopped,
         }
     }

@@ -1,7 +1,7 @@
 ghost use Rattle.std.specs.Prelude.{◌≤◌};
 ghost use Rattle.rad_outside.specs.Moments.{IsInTime};
 
-use crate::row::Row;
+use crate::table::Table;
 use rad_outside::Octets;
 use rad_policy::Policy;
 use std::alloc::Global;
@@ -18,7 +18,7 @@ pub struct Core<P, L> {
     pub(crate) moment: u64,
     pub(crate) is_stopped: bool,
     pub(crate) entries: u64,
-    pub(crate) table: Vec<Row<P>>,
+    pub(crate) table: Table<P>,
     ghost one_each: { generations ≤ entries },
     ghost in_time: { IsInTime moment },
 }
@@ -43,7 +43,7 @@ impl<P: Policy, L> Core<P, L> {
             moment: 0,
             is_stopped: false,
             entries: 0,
-            table: Vec::new(alloc),
+            table: Table::new(alloc),
         }
     }
 

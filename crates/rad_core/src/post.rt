@@ -4,11 +4,11 @@ ghost use Rattle.rad_turn.specs.Sides.{view, IsOf};
 ghost use Rattle.rad_turn.specs.Views.{beginner, IsSameSeat, Stood};
 ghost use Rattle.rad_turn.specs.Seated.{Parts, Joins};
 ghost use Rattle.rad_outside.specs.declared.listen.ListenKind.TheVariants.{Auth};
-ghost use Rattle.rad_policy.specs.Seen.{arrived_of, ending_seen};
+ghost use Rattle.rad_policy.specs.Seen.{arrived_of, ending_seen, FitsDatagram};
 ghost use Rattle.rad_core.specs.State.{opening};
 ghost use Rattle.rad_core.specs.Entry.{Start, Finish, Install, Look, Stop, worker_of};
-ghost use Rattle.rad_core.specs.Step.{IsNew, run};
-ghost use Rattle.rad_core.specs.Answers.{answer_seen, load_seen, IsTicketOf, IsHeld};
+ghost use Rattle.rad_core.specs.Step.{run};
+ghost use Rattle.rad_core.specs.Answers.{answer_seen, load_seen, IsTicketOf, IsHeld, FillsBuffer};
 ghost use Rattle.rad_core.specs.Core.{state_of, origin_of};
 ghost use Rattle.rad_core.specs.Behind.{StandsFor, FindsOnly, TurnAdds, IsWorn};
 
@@ -46,7 +46,7 @@ impl<P: Policy, L: Shelf> Post<P, L> {
         }
     }
 
-    /// A datagram of an auth listener came in. The buffer is left as it was.
+    /// A datagram of an auth listener came in. Every answer but that of a repeat leaves the buffer as it was.
     pub fn start<R: Wait>(
         &self,
         rt: &R,
@@ -57,17 +57,22 @@ impl<P: Policy, L: Shelf> Post<P, L> {
         requires own { IsOf self.now.desk seat.old }
         requires worker { arrival.now.worker ≡ (view seat.old).name }
         requires auth { arrival.now.kind ≡ Auth }
-        requires finds { FindsOnly P.meaning (view seat.old) (λ state. IsSome state.present × IsNew state (arrived_of arrival.now)) }
+        requires finds { FindsOnly P.meaning (view seat.old) (λ state. IsSome state.present) }
         ensures own { IsOf self.now.desk seat.new }
         ensures same { IsSameSeat (view seat.old) (view seat.new) }
-        ensures had { IfOk result (λ started. TurnAdds P.meaning (view seat.old) (view seat.new) (Start (arrived_of arrival.entry.now) (answer_seen started))) }
+        ensures had { IfOk result (λ started. TurnAdds P.meaning (view seat.old) (view seat.new) (Start (arrived_of arrival.entry.now) (answer_seen started reply.new))) }
         ensures ticket { IfOk result (λ started. IsTicketOf (run P.meaning opening (view seat.new).seen) started) }
         ensures worn { IfErr result (λ worn. IsWorn P.meaning (view seat.old) (view seat.new) worn.count) }
-        ensures buffer { reply.new ≡ reply.old }
+        ensures buffer { IfOk result (λ started. FillsBuffer started reply.old reply.new) }
+        ensures left { OnErr result (reply.new ≡ reply.old) }
     {
-        let _ = reply;
-        let mut step = StartStep { arrival: *arrival };
-        self.desk.turn(rt, seat, &mut step)
+        let mut step = StartStep {
+            arrival: *arrival,
+            reply: *reply,
+        };
+        let answer = self.desk.turn(rt, seat, &mut step);
+        *reply = step.reply;
+        answer
     }
 
     /// The seat's worker has ended the request of a ticket. After `Worn` the ticket is given up.
@@ -79,6 +84,7 @@ impl<P: Policy, L: Shelf> Post<P, L> {
         outcome: Outcome,
     ) -> Result<(), Worn>
         requires own { IsOf self.now.desk seat.old }
+        requires fits { FitsDatagram outcome }
         requires finds { FindsOnly P.meaning (view seat.old) (λ state. IsHeld P.meaning state ticket (view seat.old).name (ending_seen outcome)) }
         ensures own { IsOf self.now.desk seat.new }
         ensures same { IsSameSeat (view seat.old) (view seat.new) }

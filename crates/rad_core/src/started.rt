@@ -1,3 +1,4 @@
+use rad_outside::Octets;
 use rad_packet::DropCause;
 use std::sync::Arc;
 
@@ -15,6 +16,12 @@ pub struct Ticket<P> {
 pub enum Started<P> {
     /// It isn't taken, and gets no reply.
     Dropped(DropCause),
+    /// It is a repeat of a request whose reply is kept: so many octets of the reply stand at the front of the buffer.
+    Repeat(usize),
+    /// Its request is in progress, at this place, and it gets no reply of its own.
+    Busy(u64),
+    /// The table is full, with so many entries, and it gets no reply.
+    Full(u32),
     /// It is a request of its own, which waits for its `finish`.
     Fresh(Ticket<P>),
     NoMemory,
@@ -24,6 +31,12 @@ pub enum Started<P> {
 #[derive(Debug, Drop)]
 pub enum StartAnswer {
     Dropped(DropCause),
+    /// A repeat, which got these octets.
+    Repeat(Octets),
+    /// Its request was in progress, at this place.
+    Busy(u64),
+    /// The table was full, with so many entries.
+    Full(u32),
     /// A fresh request of this place.
     Fresh(u64),
     /// There was no memory for it.

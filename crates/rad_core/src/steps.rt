@@ -9,10 +9,11 @@ use rad_turn::Move as DeskMove;
 use std::mem;
 use std::sync::Arc;
 
-/// A datagram came in.
+/// A datagram came in. The step leaves a repeat's reply in its buffer.
 #[derive(Drop)]
 pub(crate) struct StartStep<'a> {
     pub(crate) arrival: Arrival<'a>,
+    pub(crate) reply: [u8; 4096],
 }
 
 impl<P: Policy, L> DeskMove<Core<P, L>> for StartStep<'_> {
@@ -21,8 +22,8 @@ impl<P: Policy, L> DeskMove<Core<P, L>> for StartStep<'_> {
     ghost use Rattle.rad_policy.specs.Seen.{arrived_of};
     ghost use Rattle.rad_core.specs.State.{opening};
     ghost use Rattle.rad_core.specs.Entry.{Start};
-    ghost use Rattle.rad_core.specs.Step.{Step, IsNew, run};
-    ghost use Rattle.rad_core.specs.Answers.{answer_seen, IsTicketOf};
+    ghost use Rattle.rad_core.specs.Step.{Step, run};
+    ghost use Rattle.rad_core.specs.Answers.{answer_seen, IsTicketOf, FillsBuffer};
     ghost use Rattle.rad_core.specs.Core.{state_of};
 
     type Reply = Started<P>;
@@ -30,20 +31,20 @@ impl<P: Policy, L> DeskMove<Core<P, L>> for StartStep<'_> {
     ghost worker = { λ step. step.arrival.worker };
 
     ghost may = { λ step log. (length log < 2 ^ 62) × (step.arrival.kind ≡ Auth)
-        × IsSome (run P.meaning opening log).present × IsNew (run P.meaning opening log) (arrived_of step.arrival) };
+        × IsSome (run P.meaning opening log).present };
 
-    ghost does = { λ step before reply after _.
-        Step P.meaning (state_of before) (Start (arrived_of step.arrival) (answer_seen reply)) (state_of after)
-        × IsTicketOf (state_of after) reply };
+    ghost does = { λ step before reply after done.
+        Step P.meaning (state_of before) (Start (arrived_of step.arrival) (answer_seen reply done.reply)) (state_of after)
+        × IsTicketOf (state_of after) reply × FillsBuffer reply step.reply done.reply };
 
-    ghost entry = { λ step _ reply _ _. Start (arrived_of step.arrival) (answer_seen reply) };
+    ghost entry = { λ step _ reply _ done. Start (arrived_of step.arrival) (answer_seen reply done.reply) };
 
     fn apply(&mut self, core: &mut Core<P, L>) -> Started<P> {
-        core.answer(&self.arrival)
+        core.start(&self.arrival, &mut self.reply)
     }
 }
 
-/// A worker has ended the request of a ticket.
+/// A worker has ended the request of a ticket. The step gives its outcome away.
 #[derive(Drop)]
 pub(crate) struct FinishStep<P> {
     pub(crate) worker: u32,
@@ -53,7 +54,7 @@ pub(crate) struct FinishStep<P> {
 
 impl<P: Policy, L> DeskMove<Core<P, L>> for FinishStep<P> {
     ghost use Rattle.std.specs.Prelude.{◌<◌, ◌^◌, length};
-    ghost use Rattle.rad_policy.specs.Seen.{ending_seen};
+    ghost use Rattle.rad_policy.specs.Seen.{ending_seen, FitsDatagram};
     ghost use Rattle.rad_core.specs.State.{opening};
     ghost use Rattle.rad_core.specs.Entry.{Finish};
     ghost use Rattle.rad_core.specs.Step.{Step, run};
@@ -64,7 +65,7 @@ impl<P: Policy, L> DeskMove<Core<P, L>> for FinishStep<P> {
 
     ghost worker = { λ step. step.worker };
 
-    ghost may = { λ step log. (length log < 2 ^ 62)
+    ghost may = { λ step log. (length log < 2 ^ 62) × FitsDatagram step.outcome
         × IsHeld P.meaning (run P.meaning opening log) step.ticket step.worker (ending_seen step.outcome) };
 
     ghost does = { λ step before _ after _.
@@ -73,7 +74,8 @@ impl<P: Policy, L> DeskMove<Core<P, L>> for FinishStep<P> {
     ghost entry = { λ step _ _ _ _. Finish step.worker step.ticket.place (ending_seen step.outcome) };
 
     fn apply(&mut self, core: &mut Core<P, L>) {
-        core.end(&self.ticket, self.worker, &self.outcome)
+        let outcome = mem::replace(&mut self.outcome, Outcome::Withheld);
+        core.end(&self.ticket, self.worker, outcome)
     }
 }
 

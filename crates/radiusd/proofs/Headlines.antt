@@ -11,6 +11,7 @@ use Rattle.rad_core.specs.declared.entry.Entry.TheVariants.{Install}
 use Rattle.rad_core.specs.Step.{after, IsLegal}
 use Rattle.rad_core.specs.Worker.{Placed, placed, of_worker, served, IsClosed, IsOwn}
 use Rattle.rad_core.proofs.Histories.{run-append, IsLegal-append, of_worker-own}
+use Rattle.rad_core.proofs.Stemming.{keeps_replies}
 use Rattle.rad_core.proofs.Completeness.{may_all, may_own, each_one_reply}
 use Rattle.rad_site.specs.declared.fault.BuildFault.{BuildFault}
 use Rattle.radiusd.specs.declared.left.Left.{Left}
@@ -69,6 +70,7 @@ module _ {W S K U G L : Type 0} (tells : KitTells W K U) (status : ℕ) (crew_be
     added = [];
     begins = sym (append-nil history);
     legal_history = legal;
+    repeats = keeps_replies site_meaning history legal;
     whole = tt;
     handed = [];
     handed_out = crew;
@@ -91,6 +93,7 @@ module _ {W S K U G L : Type 0} (tells : KitTells W K U) (status : ℕ) (crew_be
         added = tries.added;
         begins = tries.grows;
         legal_history = legal_all before now tries.added legal tries.grows tries.legal;
+        repeats = keeps_replies site_meaning now (legal_all before now tries.added legal tries.grows tries.legal);
         whole = few.whole;
         handed = [];
         handed_out = crew;
@@ -122,6 +125,7 @@ module _ {W S K U G L : Type 0} (tells : KitTells W K U) (status : ℕ) (crew_be
         added = first ∷ goes.added;
         begins = grows;
         legal_history = legal_all before now (first ∷ goes.added) legal grows (installs.legal.0, rest);
+        repeats = keeps_replies site_meaning now (legal_all before now (first ∷ goes.added) legal grows (installs.legal.0, rest));
         whole = subst IsClosed whole goes.told.closed;
         handed = handed ∷ [];
         handed_out = crew;

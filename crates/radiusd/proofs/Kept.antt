@@ -3,6 +3,7 @@ use Rattle.std.proofs.Common.{ℕ, ◌≡◌, ◌<◌, ◌+◌, ◌^◌, ◌++�
 use Rattle.rad_turn.specs.declared.view.View.{View}
 use Rattle.rad_turn.specs.Views.{IsSameSeat}
 use Rattle.rad_core.specs.declared.entry.Entry.{Entry}
+use Rattle.rad_core.specs.Requests.{Requests}
 use Rattle.rad_core.specs.Step.{Step}
 use Rattle.rad_core.specs.Behind.{TurnAdds}
 use Rattle.rad_core.proofs.Behind.{alone_adds}
@@ -30,7 +31,7 @@ module _ {O B : Type 0} (v w : View (Entry Site BuildFault) O B) (entry : Entry 
   alone_after same table = record {
     name = same.name ∙ alone.name;
     out = same.out ∙ alone.out;
-    kept = record { legal = adds.legal; idle = table ∙ alone.kept.idle };
+    kept = record { legal = adds.legal; idle = ap (λ (t : Requests Site). t.in_progress) table ∙ alone.kept.idle };
   }
 
   pub numbered_after : (count : ℕ) (before after : Tally) → IsNumbered v.seen count before → length v.seen < 2 ^ 62 → after ≡ tally_of w.seen → IsNumbered w.seen (count + 1) after

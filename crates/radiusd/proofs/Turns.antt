@@ -1,5 +1,5 @@
 -- What one datagram's way adds to the stored history.
-use Rattle.std.proofs.Common.{ℕ, ◌≡◌, ◌+◌, ◌++◌, List, [], ◌∷◌, Bool, cond, Option, Some, None, refl, ap, sym, ◌∙◌, subst, append_assoc, arith}
+use Rattle.std.proofs.Common.{ℕ, ◌≡◌, ◌+◌, ◌++◌, List, [], ◌∷◌, Bool, cond, take, Option, Some, None, refl, ap, sym, ◌∙◌, subst, append_assoc, arith}
 use Rattle.std.specs.List.{count_by}
 use Rattle.std.specs.Option.{is_some}
 use Rattle.std.specs.Arc.{arc_value}
@@ -8,7 +8,9 @@ use Rattle.rad_policy.specs.declared.ending.Ending.{Ending}
 use Rattle.rad_policy.specs.declared.outcome.Outcome.{Outcome}
 use Rattle.rad_policy.specs.declared.outcome.Outcome.TheVariants as outcome
 use Rattle.rad_core.specs.declared.started.StartAnswer.{StartAnswer}
-use Rattle.rad_core.specs.declared.started.StartAnswer.TheVariants.{Dropped, Fresh, NoRoom}
+use Rattle.rad_core.specs.declared.started.StartAnswer.TheVariants.{Dropped, Repeat, Busy, Full, Fresh, NoRoom}
+use Rattle.rad_core.specs.declared.started.Started.{Started}
+use Rattle.rad_core.specs.declared.started.Started.TheVariants as started
 use Rattle.rad_core.specs.declared.started.Ticket.{Ticket}
 use Rattle.rad_core.specs.State.{ServerState, at_moment}
 use Rattle.rad_core.specs.declared.entry.Entry.{Entry}
@@ -16,50 +18,72 @@ use Rattle.rad_core.specs.declared.entry.Entry.TheVariants.{Start, Finish}
 use Rattle.rad_core.specs.Step.{Step}
 use Rattle.rad_policy.specs.Policy.{IsAuthenticUnder}
 use Rattle.rad_policy.specs.Seen.{ending_seen, GivesOutcome}
-use Rattle.rad_core.specs.Answers.{IsHeld}
+use Rattle.rad_core.specs.Answers.{answer_seen, IsHeld, FillsBuffer}
 use Rattle.rad_core.specs.Worker.{Answer, reply_of, IsOutcome, Passes}
 use Rattle.rad_turn.specs.declared.view.View.{View}
 use Rattle.rad_core.specs.Behind.{TurnAdds}
 use Rattle.rad_core.proofs.Behind.{alone_adds}
-use Rattle.rad_core.proofs.Turns.{passes_dropped, passes_no_room, passes_fresh, held_after_start, fresh_present, moment_after}
+use Rattle.rad_core.proofs.Turns.{IsUnanswered, passes_unanswered, passes_repeat, passes_fresh, held_after_start, fresh_present, moment_after}
 use Rattle.rad_site.specs.declared.fault.BuildFault.{BuildFault}
 use Rattle.radiusd.specs.declared.turn.Reply.{Reply}
 use Rattle.rad_site.specs.Site.{Site}
 use Rattle.rad_site.specs.Meaning.{site_meaning}
 use Rattle.radiusd.specs.History.{IsAlone, state_after}
-use Rattle.radiusd.specs.Turn.{AddsTurn, CountsTurn, answers_of, IsCopied}
+use Rattle.radiusd.specs.Turn.{AddsTurn, CountsTurn, AnswersAtOnce, FitsAnswer, answers_of, IsCopied}
 use Rattle.radiusd.specs.declared.counts.Tally.{Tally}
-use Rattle.radiusd.specs.Counting.{sends, tally_of, is_request, is_reply, is_install, is_refusal}
+use Rattle.radiusd.specs.Counting.{sends, is_repeat, tally_of, is_request, is_reply, is_install, is_refusal}
 use Rattle.radiusd.proofs.Kept.{grows, stepped}
 use Rattle.radiusd.proofs.Tallies.{tally_push, same_tally, length_push}
 
--- the answer isn't that of a fresh request
-abbrev pub IsUnfresh : StartAnswer → Type 0
-IsUnfresh (Dropped cause) = Unit {0}
-IsUnfresh NoRoom = Unit {0}
-IsUnfresh (Fresh place) = ⊥
-
-passes_unfresh : (old new : ServerState Site) (arrival : Arrived) (luck : ℕ) (answer : StartAnswer) → IsUnfresh answer → old.table ≡ [] → Step site_meaning old (Start arrival answer) new → Passes site_meaning old new (Start arrival answer ∷ []) arrival luck []
-passes_unfresh old new arrival luck (Dropped cause) unfresh idle step = passes_dropped site_meaning old new arrival luck cause idle step
-passes_unfresh old new arrival luck NoRoom unfresh idle step = passes_no_room site_meaning old new arrival luck idle step
-passes_unfresh old new arrival luck (Fresh place) unfresh idle step = absurd unfresh
-
--- a start that isn't fresh is one entry, and has no reply
-pub turn_unfresh : {O B : Type 0} (v w : View (Entry Site BuildFault) O B) (arrival : Arrived) (answer : StartAnswer) (luck : ℕ) → IsUnfresh answer → IsAlone v → TurnAdds site_meaning v w (Start arrival answer) → AddsTurn v.seen w.seen (state_after v.seen) (state_after w.seen) arrival luck []
-turn_unfresh v w arrival answer luck unfresh alone adds = (
-  Start arrival answer ∷ [],
-  grows v w (Start arrival answer) alone adds,
-  passes_unfresh (state_after v.seen) (state_after w.seen) arrival luck answer unfresh alone.kept.idle (stepped v w (Start arrival answer) alone adds),
+-- a start that has no ticket is one entry, and has the reply that is in the buffer
+pub turn_at_once : {O B : Type 0} (v w : View (Entry Site BuildFault) O B) (arrival : Arrived) (answer : Started Site) (buffer : List ℕ) (reply : Option Reply) (luck : ℕ) → AnswersAtOnce answer reply → IsAlone v → TurnAdds site_meaning v w (Start arrival (answer_seen answer buffer)) → AddsTurn v.seen w.seen (state_after v.seen) (state_after w.seen) arrival luck (answers_of arrival reply buffer)
+turn_at_once v w arrival answer buffer reply luck at_once alone adds = (
+  Start arrival (answer_seen answer buffer) ∷ [],
+  grows v w (Start arrival (answer_seen answer buffer)) alone adds,
+  passes_at_once (state_after v.seen) (state_after w.seen) arrival answer buffer reply luck at_once alone.kept.idle (stepped v w (Start arrival (answer_seen answer buffer)) alone adds),
 )
+  where
+    unanswered : (old new : ServerState Site) (arrival : Arrived) (luck : ℕ) (answer : StartAnswer) (buffer : List ℕ) (reply : Option Reply) → IsUnanswered answer → reply ≡ None → old.table.in_progress ≡ [] → Step site_meaning old (Start arrival answer) new → Passes site_meaning old new (Start arrival answer ∷ []) arrival luck (answers_of arrival reply buffer)
+    unanswered old new arrival luck answer buffer reply un none idle step =
+        subst (λ (r : Option Reply). Passes site_meaning old new (Start arrival answer ∷ []) arrival luck (answers_of arrival r buffer)) (sym none) (passes_unanswered site_meaning old new arrival luck answer un idle step)
 
--- and counts as a request without a reply
-pub counts_unfresh : {O B : Type 0} (v w : View (Entry Site BuildFault) O B) (arrival : Arrived) (answer : StartAnswer) → IsAlone v → TurnAdds site_meaning v w (Start arrival answer) → CountsTurn v.seen w.seen (record { entries = 1; reply = None })
-counts_unfresh v w arrival answer alone adds = record {
-  more = length_push v.seen w.seen (Start arrival answer) (grows v w (Start arrival answer) alone adds);
-  few = omega arith;
-  tally = tally_push v.seen w.seen (Start arrival answer) (grows v w (Start arrival answer) alone adds)
-      ∙ same_tally _ _ (count_by is_install v.seen + 0) (count_by is_refusal v.seen + 0) _ _ (count_by is_install v.seen) (count_by is_refusal v.seen) refl refl (omega arith) (omega arith);
-}
+    passes_at_once : (old new : ServerState Site) (arrival : Arrived) (answer : Started Site) (buffer : List ℕ) (reply : Option Reply) (luck : ℕ) → AnswersAtOnce answer reply → old.table.in_progress ≡ [] → Step site_meaning old (Start arrival (answer_seen answer buffer)) new → Passes site_meaning old new (Start arrival (answer_seen answer buffer) ∷ []) arrival luck (answers_of arrival reply buffer)
+    passes_at_once old new arrival (started.Dropped cause) buffer reply luck at_once idle step = unanswered old new arrival luck (Dropped cause) buffer reply tt at_once idle step
+    passes_at_once old new arrival (started.Repeat count) buffer reply luck at_once idle step =
+        subst (λ (r : Option Reply). Passes site_meaning old new (Start arrival (Repeat (take count buffer)) ∷ []) arrival luck (answers_of arrival r buffer)) (sym at_once) (passes_repeat site_meaning old new arrival luck (take count buffer) idle step)
+    passes_at_once old new arrival (started.Busy place) buffer reply luck at_once idle step = unanswered old new arrival luck (Busy place) buffer reply tt at_once idle step
+    passes_at_once old new arrival (started.Full count) buffer reply luck at_once idle step = unanswered old new arrival luck (Full count) buffer reply tt at_once idle step
+    passes_at_once old new arrival (started.Fresh ticket) buffer reply luck at_once idle step = absurd at_once
+    passes_at_once old new arrival started.NoMemory buffer reply luck at_once idle step = unanswered old new arrival luck NoRoom buffer reply tt at_once idle step
+
+-- such a start has a reply where it is a repeat
+repeat_replied : (answer : Started Site) (buffer : List ℕ) (reply : Option Reply) → AnswersAtOnce answer reply → is_repeat (answer_seen answer buffer) ≡ is_some reply
+repeat_replied (started.Dropped cause) buffer reply at_once = ap is_some (sym at_once)
+repeat_replied (started.Repeat count) buffer reply at_once = ap is_some (sym at_once)
+repeat_replied (started.Busy place) buffer reply at_once = ap is_some (sym at_once)
+repeat_replied (started.Full count) buffer reply at_once = ap is_some (sym at_once)
+repeat_replied (started.Fresh ticket) buffer reply at_once = absurd at_once
+repeat_replied started.NoMemory buffer reply at_once = ap is_some (sym at_once)
+
+-- and counts as a request and its reply
+pub counts_at_once : {O B : Type 0} (v w : View (Entry Site BuildFault) O B) (arrival : Arrived) (answer : Started Site) (buffer : List ℕ) (reply : Option Reply) → AnswersAtOnce answer reply → IsAlone v → TurnAdds site_meaning v w (Start arrival (answer_seen answer buffer)) → CountsTurn v.seen w.seen (record { entries = 1; reply = reply })
+counts_at_once v w arrival answer buffer reply at_once alone adds =
+    let entry : Entry Site BuildFault = Start arrival (answer_seen answer buffer) in
+    record {
+      more = length_push v.seen w.seen entry (grows v w entry alone adds);
+      few = omega arith;
+      tally = tally_push v.seen w.seen entry (grows v w entry alone adds)
+          ∙ same_tally (count_by is_request v.seen + 1) _ (count_by is_install v.seen + 0) (count_by is_refusal v.seen + 0) (count_by is_request v.seen + 1) _ (count_by is_install v.seen) (count_by is_refusal v.seen) refl (ap (λ (b : Bool). count_by is_reply v.seen + cond b 1 0) (repeat_replied answer buffer reply at_once)) (omega arith) (omega arith);
+    }
+
+-- its reply fits
+pub fits_at_once : (answer : Started Site) (before after : List ℕ) (reply : Option Reply) → AnswersAtOnce answer reply → FillsBuffer answer before after → FitsAnswer reply
+fits_at_once (started.Dropped cause) before after reply at_once fills = subst FitsAnswer (sym at_once) tt
+fits_at_once (started.Repeat count) before after reply at_once fills = subst FitsAnswer (sym at_once) fills
+fits_at_once (started.Busy place) before after reply at_once fills = subst FitsAnswer (sym at_once) tt
+fits_at_once (started.Full count) before after reply at_once fills = subst FitsAnswer (sym at_once) tt
+fits_at_once (started.Fresh ticket) before after reply at_once fills = absurd at_once
+fits_at_once started.NoMemory before after reply at_once fills = subst FitsAnswer (sym at_once) tt
 
 -- the copied reply is that of the outcome
 copied_reply : (arrival : Arrived) (outcome : Outcome) (reply : Option Reply) (buffer : List ℕ) → IsCopied outcome reply buffer → reply_of arrival (Some (ending_seen outcome)) ≡ answers_of arrival reply buffer
@@ -92,7 +116,7 @@ pub authentic_at_place : (old mid : ServerState Site) (arrival : Arrived) (ticke
 authentic_at_place old mid arrival ticket present step =
     let both : Some step.may.1.0 ≡ Some (arc_value ticket.generation) = sym step.may.1.1 ∙ sym (fresh_present site_meaning old mid arrival ticket.place step) ∙ present in
     let same : step.may.1.0 ≡ arc_value ticket.generation = cc in
-    subst (λ (g : Site). IsAuthenticUnder site_meaning g arrival) same step.may.1.2.0
+    subst (λ (g : Site). IsAuthenticUnder site_meaning g arrival) same step.may.1.2.0.authentic
 
 module _ {O B : Type 0} (v m w : View (Entry Site BuildFault) O B) (arrival : Arrived) (ticket : Ticket Site) (luck : ℕ) (outcome : Outcome) where
   -- a fresh request and its finish are two entries, and have the reply that was copied

@@ -3,6 +3,8 @@ use Rattle.std.specs.Prelude.{ℕ, ◌+◌, ◌-◌, Bool, true, false, List, dr
 use Rattle.std.specs.List.{count_by}
 use Rattle.rad_policy.specs.declared.ending.Ending.{Ending}
 use Rattle.rad_policy.specs.declared.ending.Ending.TheVariants.{Sent, Withheld, OutOfMemory}
+use Rattle.rad_core.specs.declared.started.StartAnswer.{StartAnswer}
+use Rattle.rad_core.specs.declared.started.StartAnswer.TheVariants.{Dropped, Repeat, Busy, Full, Fresh, NoRoom}
 use Rattle.rad_core.specs.declared.installed.Installed.{Installed}
 use Rattle.rad_core.specs.declared.installed.Installed.TheVariants as installed
 use Rattle.rad_core.specs.declared.entry.Entry.{Entry}
@@ -27,9 +29,18 @@ sends (Sent octets) = true
 sends Withheld = false
 sends OutOfMemory = false
 
+-- A start that is answered with the reply that is kept for it.
+abbrev pub is_repeat : StartAnswer → Bool
+is_repeat (Dropped cause) = false
+is_repeat (Repeat octets) = true
+is_repeat (Busy place) = false
+is_repeat (Full count) = false
+is_repeat (Fresh place) = false
+is_repeat NoRoom = false
+
 -- Whether an entry stands for a reply that was handed to a wire.
 abbrev pub is_reply : Entry Site BuildFault → Bool
-is_reply (Start arrival answer) = false
+is_reply (Start arrival answer) = is_repeat answer
 is_reply (Finish worker place ending) = sends ending
 is_reply (Install worker load listeners answer) = false
 is_reply (Look worker seen) = false

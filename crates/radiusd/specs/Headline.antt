@@ -12,6 +12,7 @@ use Rattle.rad_core.specs.Entry.{worker_of}
 use Rattle.rad_core.specs.Step.{IsLegal}
 use Rattle.rad_core.specs.Worker.{Placed, placed, of_worker, served, answered, IsClosed, HaveOutcomes}
 use Rattle.rad_core.specs.Completeness.{EachHasOneReply}
+use Rattle.rad_core.specs.Keeping.{KeepsReplies}
 use Rattle.rad_site.specs.declared.fault.BuildFault.{BuildFault}
 use Rattle.radiusd.specs.declared.left.Left.{Left}
 use Rattle.radiusd.specs.Course.{Course, IsCourse, Takes, IsExcused, lines_of}
@@ -52,7 +53,8 @@ pub record ServedInOrder {W S K U G : Type 0} (tells : KitTells W K U) (mine : L
   pub closed : IsClosed mine
 
 -- The sends handed in on a kit's wire are the replies of these entries, in order, each to its arrival's source. Each
--- arrival that is authentic has one, unless the policy withholds it or memory ran out.
+-- arrival that is authentic has one, unless its request was in progress already or the table was full, the policy withholds
+-- it, or memory ran out.
 pub record RepliesInOrder {W S K U G : Type 0} (tells : KitTells W K U) (mine : List (Placed Site BuildFault)) (handed : Handed W S K U G) (kit : Kit W S K U G) : Type 0 where
   pub sent : Tells (tells.wire handed.kit.wire) (tells.wire kit.wire) (Sends (answered mine))
   pub each : EachHasOneReply site_meaning mine
@@ -84,6 +86,8 @@ pub record Headline {W S K U G L : Type 0} (tells : KitTells W K U) (course : Co
   pub added : List (Entry Site BuildFault)
   pub begins : after ≡ before ++ added
   pub legal_history : IsLegal site_meaning opening after
+  -- a packet that comes again in the keeping time of its reply gets that reply's octets, and no policy is run for it
+  pub repeats : KeepsReplies site_meaning after
   -- no other entry at all stands between a fresh start and its finish, since one thread serves
   pub whole : IsClosed (placed site_meaning (state_after before) added)
   -- the kits are those that the crew handed out

@@ -21,7 +21,7 @@ state_after history = run site_meaning opening history
 -- The history is legal, and nothing is in progress after it.
 pub record IsKept (history : List (Entry Site BuildFault)) : Type 0 where
   pub legal : IsLegal site_meaning opening history
-  pub idle : (state_after history).table ≡ []
+  pub idle : (state_after history).table.in_progress ≡ []
 
 -- A seat with this view is the first, and the only one that is out, and keeps the history.
 pub record IsAlone {O B : Type 0} (v : View (Entry Site BuildFault) O B) : Type 0 where

@@ -5,6 +5,8 @@ use Rattle.std.specs.Option.{is_some}
 use Rattle.rad_policy.specs.declared.arrival.Arrived.{Arrived}
 use Rattle.rad_policy.specs.declared.outcome.Outcome.{Outcome}
 use Rattle.rad_policy.specs.declared.outcome.Outcome.TheVariants as outcome
+use Rattle.rad_core.specs.declared.started.Started.{Started}
+use Rattle.rad_core.specs.declared.started.Started.TheVariants as started
 use Rattle.rad_core.specs.State.{ServerState}
 use Rattle.rad_core.specs.declared.entry.Entry.{Entry}
 use Rattle.rad_core.specs.Worker.{Answer, Passes}
@@ -21,6 +23,16 @@ IsCopied (outcome.Sent octets) (Some reply) buffer = take reply.length buffer �
 IsCopied (outcome.Sent octets) None buffer = ⊥
 IsCopied outcome.Withheld copied buffer = copied ≡ None
 IsCopied outcome.NoMemory copied buffer = copied ≡ None
+
+-- What a start is answered at once, which has no ticket: a repeat the reply that it left in the buffer, of no place, and
+-- any other none.
+abbrev pub AnswersAtOnce : Started Site → Option Reply → Type 0
+AnswersAtOnce (started.Dropped cause) reply = reply ≡ None
+AnswersAtOnce (started.Repeat count) reply = reply ≡ Some (record { length = count; place = 0 })
+AnswersAtOnce (started.Busy place) reply = reply ≡ None
+AnswersAtOnce (started.Full count) reply = reply ≡ None
+AnswersAtOnce (started.Fresh ticket) reply = ⊥
+AnswersAtOnce started.NoMemory reply = reply ≡ None
 
 -- The reply in the buffer, to the source of its arrival.
 abbrev pub answers_of : Arrived → Option Reply → List ℕ → List Answer

@@ -1,12 +1,12 @@
-ghost use Rattle.std.specs.Prelude.{◌≡◌, ◌≤◌, ◌+◌, ◌^◌, [], length, IsSome, take};
+ghost use Rattle.std.specs.Prelude.{◌≡◌, ◌≤◌, ◌+◌, ◌^◌, [], length, IsSome, IfOk, IfErr, take};
 ghost use Rattle.rad_outside.specs.declared.listen.ListenKind.TheVariants.{Auth};
 ghost use Rattle.rad_turn.specs.Sides.{view, IsOf};
 ghost use Rattle.rad_turn.specs.Views.{IsSameSeat};
 ghost use Rattle.rad_policy.specs.Seen.{arrived_of, FitsDatagram};
 ghost use Rattle.radiusd.specs.History.{IsAlone, state_after};
-ghost use Rattle.radiusd.specs.Turn.{AddsTurn, CountsTurn, answers_of, FitsAnswer, IsCopied};
+ghost use Rattle.radiusd.specs.Turn.{AddsTurn, CountsTurn, AnswersAtOnce, answers_of, FitsAnswer, IsCopied};
 
-use rad_core::{Core, Post, Started};
+use rad_core::{Core, Post, Started, Ticket};
 use rad_outside::{Gate, Point, Shelf};
 use rad_policy::{Arrival, Outcome, Policy};
 use rad_site::Generation;
@@ -14,7 +14,8 @@ use rad_turn::Seat;
 use std::alloc::Global;
 use std::sync::Wait;
 
-/// A reply that stands at the front of a buffer: how many octets it has, at most 4,096, and the place of its request.
+/// A reply that stands at the front of a buffer: how many octets it has, at most 4,096, and the place of its request, or
+/// 0 where it is that of a repeat.
 #[derive(Clone, Copy, Debug)]
 pub(crate) struct Reply {
     pub(crate) length: usize,
@@ -26,6 +27,21 @@ pub(crate) struct Reply {
 pub(crate) struct Taken {
     pub(crate) entries: u64,
     pub(crate) reply: Option<Reply>,
+}
+
+/// The ticket of a start, or what it is answered at once.
+fn ticket_of(started: Started<Generation>) -> Result<Ticket<Generation>, Option<Reply>>
+    ensures fresh { IfOk result (λ ticket. started ≡ Started.Fresh ticket) }
+    ensures other { IfErr result (AnswersAtOnce started) }
+{
+    match started {
+        Started::Dropped(_) => Err(None),
+        Started::Repeat(length) => Err(Some(Reply { length, place: 0 })),
+        Started::Busy(_) => Err(None),
+        Started::Full(_) => Err(None),
+        Started::Fresh(ticket) => Ok(ticket),
+        Started::NoMemory => Err(None),
+    }
 }
 
 /// Copies a reply to the front of a buffer, where there is one.
@@ -47,7 +63,8 @@ fn copied(outcome: &Outcome, place: u64, buffer: &mut [u8; 4096]) -> Option<Repl
 }
 
 /// One datagram's whole way at a desk at which no other seat is out: its start, which is one turn, and, where it is
-/// fresh, its policy, and its finish, which is another turn. The reply is left at the front of the buffer.
+/// fresh, its policy, and its finish, which is another turn. The reply, which of a repeat is the one that was kept, is
+/// left at the front of the buffer.
 pub(crate) fn take_turn<R: Wait, L: Shelf, S: Shelf, G: Gate>(
     rt: &R,
     alloc: Global,
@@ -78,16 +95,9 @@ pub(crate) fn take_turn<R: Wait, L: Shelf, S: Shelf, G: Gate>(
     let Ok(started) = post.start(rt, seat, arrival, buffer) else {
         unreachable!()
     };
-    match started {
-        Started::Dropped(_) => Taken {
-            entries: 1,
-            reply: None,
-        },
-        Started::NoMemory => Taken {
-            entries: 1,
-            reply: None,
-        },
-        Started::Fresh(ticket) => {
+    match ticket_of(started) {
+        Err(reply) => Taken { entries: 1, reply },
+        Ok(ticket) => {
             let place = ticket.place;
             gate.at(Point::InPolicy, place);
             let outcome = ticket

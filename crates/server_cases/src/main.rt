@@ -13,8 +13,9 @@ use shared_cases::{Form, Tally};
 use std::process::ExitCode;
 
 /// The files of cases.
-const FILES: [&str; 6] = [
+const FILES: [&str; 7] = [
     "serving.cases",
+    "repeats.cases",
     "failing.cases",
     "words.cases",
     "sites.cases",

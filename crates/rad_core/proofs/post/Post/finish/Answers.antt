@@ -13,6 +13,7 @@ use Rattle.rad_core.proofs.post.Post.finish.Goals as goal
 pub turn-requires-clause-may : goal.turn-requires-clause-may
 turn-requires-clause-may g c = λ log value stood learns short. (
   short,
+  c.requires.fits,
   subst (λ (n : ℕ). IsHeld g.P.Policy.meaning (run g.P.Policy.meaning opening log) c.args.ticket n (ending_seen c.args.outcome)) (sym c.name.ensures) (c.requires.finds log stood.state.legal learns short),
 )
 
