@@ -1,26 +1,11 @@
 -- Requests in progress have keys of their own, none of which is kept; and a kept reply stays for its keeping time.
-use Rattle.std.proofs.Common.{ℕ, ◌≡◌, ◌≤◌, ◌<◌, ◌+◌, ◌==◌, ◌⊎◌, inl, inr, min, max, Bool, true, false, not, cond, List, [], ◌∷◌, ◌++◌, filter, Option, Some, None, Result, Ok, Err, refl, ap, sym, ◌∙◌, subst, arith}
-use Rattle.std.specs.List.{AllByRecursion, find, before_first, after_first}
-use Rattle.std.specs.Option.{option_map, option_or}
+use Rattle.std.proofs.Common.{ℕ, ◌≡◌, ◌+◌, Bool, true, false, cond, List, [], ◌∷◌, ◌++◌, filter, Option, Some, None, refl, ap, sym, ◌∙◌, subst}
+use Rattle.std.specs.List.{AllByRecursion, find}
+use Rattle.std.specs.Option.{option_or}
 use Rattle.std.proofs.lemmas.List.Folds.{find-append}
-use Rattle.std.proofs.lemmas.Bool.Decides.{nat_tests}
-use Rattle.rad_policy.specs.declared.arrival.Arrived.{Arrived}
-use Rattle.rad_policy.specs.declared.ending.Ending.{Ending}
-use Rattle.rad_policy.specs.declared.ending.Ending.TheVariants.{Sent, Withheld, OutOfMemory}
-use Rattle.rad_policy.specs.Policy.{Meaning}
-use Rattle.rad_core.specs.declared.started.StartAnswer.{StartAnswer}
-use Rattle.rad_core.specs.declared.started.StartAnswer.TheVariants.{Dropped, Repeat, Busy, Full, Fresh, NoRoom}
-use Rattle.rad_core.specs.declared.installed.Installed.{Installed}
 use Rattle.rad_core.specs.declared.installed.Installed.TheVariants as installed
-use Rattle.rad_core.specs.Requests.{RequestKey, InProgress, KeptReply, Requests, key_of, same_key, is_kept_for, is_run_for, lasts_at, table_at, with_row, is_at, without_place, reply_in, kept_of, kept_by, without_request}
-use Rattle.rad_core.specs.State.{ServerState, opening, later_of, at_moment, with_request}
-use Rattle.rad_core.specs.Entry.{Entry, Start, Finish, Install, Look, Stop}
-use Rattle.rad_core.specs.Step.{May, after, after_install, run, IsLegal}
-use Rattle.rad_core.proofs.Keys.{key_eq, key_same, key_differs, key_apart, none_below, AllR-append, AllR-map, AllR-found, AllR-none, find_kept, find_lost, without_first}
-
--- a reply lasts up to its last second
-pub lasting : (moment : ℕ) (reply : KeptReply) → moment ≤ reply.until → lasts_at moment reply ≡ true
-lasting moment reply h = grind (arith, nat_tests)
+use Rattle.rad_core.specs.Requests.{RequestKey, InProgress, KeptReply, Requests, key_of, is_kept_for, is_run_for, lasts_at, table_at, with_row, is_at, without_place, kept_of, kept_by, without_request}
+use Rattle.rad_core.proofs.Keys.{key_differs, key_apart, AllR-append, AllR-map, AllR-found, AllR-none, find_lost, without_first}
 
 module _ {P : Type 0} where
   -- the key of a request in progress

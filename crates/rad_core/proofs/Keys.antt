@@ -1,12 +1,12 @@
 -- Keys, and lists of requests and replies under them.
-use Rattle.std.proofs.Common.{ℕ, ◌≡◌, ◌==◌, ◌&&◌, ◌+◌, ◌⊎◌, inl, inr, Bool, true, false, not, cond, List, [], ◌∷◌, ◌++◌, take, drop, filter, Option, Some, None, refl, ap, sym, ◌∙◌, subst, one-add, add-one}
+use Rattle.std.proofs.Common.{ℕ, ◌≡◌, ◌==◌, ◌&&◌, ◌+◌, Bool, true, false, not, cond, List, [], ◌∷◌, ◌++◌, take, drop, filter, Option, Some, None, refl, ap, sym, ◌∙◌, subst, one-add, add-one}
 use Rattle.std.specs.List.{AllByRecursion, find, position_or_len, before_first, after_first}
 use Rattle.std.specs.Option.{option_map}
 use Rattle.std.specs.Str.{bytes_eq}
 use Rattle.std.proofs.lemmas.Bool.{eqb-true, eq-eqb, false≢true}
 use Rattle.std.proofs.lemmas.Slice.Eq.{bytes_eq-Decides}
 use Rattle.rad_outside.specs.declared.listen.Peer.{Peer}
-use Rattle.rad_core.specs.Requests.{RequestKey, same_key, InProgress, is_at, without_place}
+use Rattle.rad_core.specs.Requests.{RequestKey, same_key}
 
 -- both sides of a conjunction that is true
 both : (a b : Bool) → (a && b) ≡ true → (a ≡ true) × (b ≡ true)

@@ -1,6 +1,7 @@
 pub mod Rows
 pub mod Firsts
 pub mod Keys
+pub mod Lasting
 pub mod Keeping
 pub mod Repeating
 pub mod Stemming

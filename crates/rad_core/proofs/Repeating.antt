@@ -1,26 +1,26 @@
 -- A repeat in its keeping time gets the first reply, over whole histories.
-use Rattle.std.proofs.Common.{ℕ, ◌≡◌, ◌≤◌, ◌<◌, ◌+◌, ◌⊎◌, inl, inr, min, max, Bool, true, false, not, cond, List, [], ◌∷◌, ◌++◌, filter, Option, Some, None, Result, Ok, Err, refl, ap, sym, ◌∙◌, subst, arith, append_assoc}
-use Rattle.std.specs.List.{AllByRecursion, find}
+use Rattle.std.proofs.Common.{ℕ, ◌≡◌, ◌≤◌, ◌+◌, Bool, cond, List, [], ◌∷◌, ◌++◌, Option, Some, None, Result, Ok, Err, refl, ap, sym, ◌∙◌, subst, arith}
+use Rattle.std.specs.List.{find}
 use Rattle.std.specs.Option.{option_map, option_or}
 use Rattle.std.proofs.lemmas.List.Folds.{find-append}
 use Rattle.rad_packet.specs.Authentic.{IsAuthentic}
 use Rattle.rad_packet.proofs.Datagrams.{cause_without_authentic}
 use Rattle.rad_policy.specs.declared.arrival.Arrived.{Arrived}
-use Rattle.rad_policy.specs.declared.ending.Ending.{Ending}
-use Rattle.rad_policy.specs.declared.ending.Ending.TheVariants.{Sent, Withheld, OutOfMemory}
+use Rattle.rad_policy.specs.declared.ending.Ending.TheVariants.{Sent}
 use Rattle.rad_policy.specs.Policy.{Meaning}
 use Rattle.rad_core.specs.declared.started.StartAnswer.{StartAnswer}
 use Rattle.rad_core.specs.declared.started.StartAnswer.TheVariants.{Dropped, Repeat, Busy, Full, Fresh, NoRoom}
 use Rattle.rad_core.specs.declared.installed.Installed.{Installed}
 use Rattle.rad_core.specs.declared.installed.Installed.TheVariants as installed
-use Rattle.rad_core.specs.Requests.{RequestKey, InProgress, KeptReply, Requests, key_of, same_key, is_kept_for, is_run_for, lasts_at, table_at, with_row, is_at, reply_in, kept_of, kept_by, reply_for}
+use Rattle.rad_core.specs.Requests.{RequestKey, InProgress, KeptReply, Requests, key_of, is_kept_for, is_run_for, lasts_at, table_at, with_row, is_at, reply_in, kept_of, kept_by, reply_for}
 use Rattle.rad_core.specs.State.{ServerState, opening, later_of, at_moment, with_request}
 use Rattle.rad_core.specs.Entry.{Entry, Start, Finish, Install, Look, Stop}
 use Rattle.rad_core.specs.Step.{May, after, after_start, after_install, run, IsLegal, IsTaken}
 use Rattle.rad_core.specs.Keeping.{IsRepeatOf}
 use Rattle.rad_core.proofs.Histories.{run-append}
+use Rattle.rad_core.proofs.Lasting.{lasting}
 use Rattle.rad_core.proofs.Keys.{key_same, none_below, AllR-found, find_kept}
-use Rattle.rad_core.proofs.Keeping.{IsUnkept, IsSound, lasting, row_key, sound_at, sound_with, sound_without}
+use Rattle.rad_core.proofs.Keeping.{IsUnkept, IsSound, row_key, sound_at, sound_with, sound_without}
 
 pub installed_table : {P F : Type 0} (state : ServerState P) (load : Result P F) (answer : Installed F) → ((after_install state load answer).table ≡ state.table) × ((after_install state load answer).moment ≡ state.moment)
 installed_table state (Ok generation) (installed.Generation number) = (refl, refl)

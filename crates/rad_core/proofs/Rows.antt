@@ -1,5 +1,5 @@
 -- Lists that are seen through a view: what is found, kept and left of them.
-use Rattle.std.proofs.Common.{ℕ, ◌≡◌, ◌+◌, Bool, true, false, not, cond, List, [], ◌∷◌, ◌++◌, map, filter, take, drop, Option, Some, None, refl, ap, ◌∙◌, sym}
+use Rattle.std.proofs.Common.{◌≡◌, ◌+◌, Bool, true, false, not, cond, List, [], ◌∷◌, ◌++◌, map, filter, take, drop, Some, refl, ap, ◌∙◌, sym}
 use Rattle.std.specs.List.{find, position_or_len, before_first, after_first, take-map, drop-map}
 use Rattle.std.specs.Option.{option_map}
 use Rattle.std.proofs.lemmas.List.{map-append}

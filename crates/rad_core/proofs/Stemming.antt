@@ -1,25 +1,20 @@
 -- What is kept was sent, over whole histories.
-use Rattle.std.proofs.Common.{ℕ, ◌≡◌, ◌≤◌, ◌<◌, ◌+◌, ◌⊎◌, inl, inr, Bool, true, false, not, cond, List, [], ◌∷◌, ◌++◌, filter, Option, Some, None, refl, ap, sym, ◌∙◌, subst, arith}
+use Rattle.std.proofs.Common.{ℕ, ◌≡◌, ◌≤◌, ◌+◌, ◌⊎◌, inl, inr, Bool, true, false, cond, List, [], ◌∷◌, ◌++◌, filter, Option, Some, None, refl, ap, sym, ◌∙◌, subst}
 use Rattle.std.specs.List.{find}
-use Rattle.std.specs.Option.{option_map}
-use Rattle.std.proofs.lemmas.Bool.Decides.{nat_tests}
 use Rattle.rad_policy.specs.declared.arrival.Arrived.{Arrived}
 use Rattle.rad_policy.specs.declared.ending.Ending.{Ending}
 use Rattle.rad_policy.specs.declared.ending.Ending.TheVariants.{Sent, Withheld, OutOfMemory}
 use Rattle.rad_policy.specs.Policy.{Meaning}
 use Rattle.rad_core.specs.declared.started.StartAnswer.TheVariants.{Repeat}
-use Rattle.rad_core.specs.Requests.{RequestKey, InProgress, KeptReply, Requests, key_of, is_kept_for, lasts_at, is_at, reply_in, kept_of, kept_by}
+use Rattle.rad_core.specs.Requests.{InProgress, KeptReply, Requests, key_of, is_kept_for, lasts_at, is_at, reply_in, kept_of, kept_by}
 use Rattle.rad_core.specs.State.{ServerState, opening, later_of, at_moment}
 use Rattle.rad_core.specs.Entry.{Entry, Start, Finish, Install, Look, Stop}
 use Rattle.rad_core.specs.Step.{May, after, run, IsLegal}
 use Rattle.rad_core.specs.Keeping.{IsRepeatOf, KeepsReplies}
+use Rattle.rad_core.proofs.Lasting.{lasted}
 use Rattle.rad_core.proofs.Keys.{key_eq, some_below}
 use Rattle.rad_core.proofs.Keeping.{row_key}
 use Rattle.rad_core.proofs.Repeating.{installed_table, started_kept, legal_front, repeats_get}
-
--- a moment up to the last second
-lasted : (moment : ℕ) (reply : KeptReply) → lasts_at moment reply ≡ true → moment ≤ reply.until
-lasted moment reply h = grind (arith, nat_tests, h)
 
 module _ {X : Type 0} where
   -- the element is in the list

@@ -12,7 +12,7 @@ use Rattle.rad_core.specs.declared.started.StartAnswer.TheVariants.{Dropped, Rep
 use Rattle.rad_core.specs.declared.started.Ticket.{Ticket}
 use Rattle.rad_policy.specs.Policy.{Meaning}
 use Rattle.rad_core.specs.State.{ServerState, at_moment, with_request}
-use Rattle.rad_core.specs.Requests.{InProgress, Requests, without_place}
+use Rattle.rad_core.specs.Requests.{InProgress, without_place}
 use Rattle.rad_core.specs.Entry.{Entry, Start, Finish}
 use Rattle.rad_core.specs.Step.{after, after_start, run, IsLegal, Step, Gives}
 use Rattle.rad_policy.specs.Seen.{ending_seen, GivesOutcome}

@@ -1,5 +1,5 @@
 -- What a repeat gets, over whole histories. This project's own, after RFC 5080 section 2.2.2.
-use Rattle.std.specs.Prelude.{ℕ, ◌≡◌, ◌+◌, ◌≤◌, List, [], ◌∷◌, ◌++◌, Some, find}
+use Rattle.std.specs.Prelude.{ℕ, ◌≡◌, ◌+◌, ◌≤◌, List, ◌∷◌, ◌++◌, Some, find}
 use Rattle.rad_policy.specs.declared.arrival.Arrived.{Arrived}
 use Rattle.rad_policy.specs.declared.ending.Ending.TheVariants.{Sent}
 use Rattle.rad_policy.specs.Policy.{Meaning}

@@ -1,7 +1,7 @@
 -- The table of requests: those in progress, and the replies that are kept for repeats. This project's own, after
 -- RFC 2865 sections 2.5 and 3 and RFC 5080 section 2.2.2.
-use Rattle.std.specs.Prelude.{ℕ, ◌+◌, ◌==◌, ◌&&◌, List, [], ◌∷◌, ◌++◌, length, Option, Some, None, Bool, not, filter, find, nat_lt}
-use Rattle.std.specs.List.{before_first, after_first}
+use Rattle.std.specs.Prelude.{ℕ, ◌+◌, ◌≤◌, ◌==◌, ◌&&◌, List, [], ◌∷◌, ◌++◌, length, Option, Some, None, Bool, not, filter, find, nat_lt}
+use Rattle.std.specs.List.{AllByRecursion, before_first, after_first}
 use Rattle.std.specs.Option.{option_map}
 use Rattle.std.specs.Str.{bytes_eq}
 use Rattle.rad_outside.specs.declared.listen.Peer.{Peer}
@@ -50,10 +50,11 @@ no_requests = record { in_progress = []; kept = [] }
 abbrev pub size_of : {P : Type 0} → Requests P → ℕ
 size_of table = length table.kept + length table.in_progress
 
--- Whether a reply is kept for this key, and whether a request in progress has it.
+-- Whether a reply is kept for this key.
 abbrev pub is_kept_for : RequestKey → KeptReply → Bool
 is_kept_for key kept = same_key kept.key key
 
+-- Whether a request in progress has this key.
 abbrev pub is_run_for : {P : Type 0} → RequestKey → InProgress P → Bool
 is_run_for key row = same_key (key_of row.arrival) key
 
@@ -68,6 +69,10 @@ place_for {P} key table = option_map (λ (row : InProgress P). row.place) (find 
 -- Whether the keeping time of a reply lasts at a moment.
 abbrev pub lasts_at : ℕ → KeptReply → Bool
 lasts_at moment kept = not (nat_lt kept.until moment)
+
+-- Every reply's keeping time lasts to a moment.
+abbrev pub LastTo : ℕ → List KeptReply → Type 0
+LastTo moment kept = AllByRecursion (λ (reply : KeptReply). moment ≤ reply.until) kept
 
 -- The table at a moment: the replies whose keeping time is over have left.
 abbrev pub table_at : {P : Type 0} → ℕ → Requests P → Requests P

@@ -1,9 +1,5 @@
 -- How the table's Rust values are seen. This project's own.
-use Rattle.std.specs.Prelude.{ℕ, ◌≤◌, length, Option, Some, None}
 use Rattle.std.specs.Arc.{arc_value}
-use Rattle.std.specs.declared.sync.Arc.{Arc}
-use Rattle.std.specs.declared.alloc.Global.{Global}
-use Rattle.rad_outside.specs.declared.octets.Octets.{Octets}
 use Rattle.rad_core.specs.declared.key.Key.{Key}
 use Rattle.rad_core.specs.declared.kept.Kept.{Kept}
 use Rattle.rad_core.specs.declared.row.Row.{Row}

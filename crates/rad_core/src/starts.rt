@@ -1,9 +1,8 @@
-ghost use Rattle.std.specs.Prelude.{◌≡◌, ◌≤◌, ◌<◌, ◌+◌, ◌^◌, ◌++◌, ◌∷◌, [], ℕ, List, length, take, IsSome, None, OnOk, OnErr, IfOk, IfErr};
+ghost use Rattle.std.specs.Prelude.{◌≡◌, ◌≤◌, ◌<◌, ◌+◌, ◌^◌, ℕ, List, length, take, IsSome, None, OnOk, OnErr, IfOk, IfErr};
 ghost use Rattle.rad_outside.specs.declared.listen.ListenKind.TheVariants.{Auth};
 ghost use Rattle.rad_packet.specs.Packet.{packet_of};
 ghost use Rattle.rad_core.specs.State.{at_moment};
-ghost use Rattle.rad_core.specs.Requests.{key_of, size_of, reply_for, place_for};
-ghost use Rattle.rad_core.specs.Rows.{key_seen};
+ghost use Rattle.rad_core.specs.Requests.{size_of};
 ghost use Rattle.rad_core.specs.Entry.{Start};
 ghost use Rattle.rad_core.specs.Step.{Step, IsNew, IsDroppedFor, IsTaken, Judges};
 ghost use Rattle.rad_policy.specs.Seen.{arrived_of};

@@ -1,9 +1,8 @@
 //! The table of requests.
-ghost use Rattle.std.specs.Prelude.{◌≡◌, ◌+◌, ◌≤◌, ◌++◌, length, filter, find, position, map, option_to_list};
+ghost use Rattle.std.specs.Prelude.{◌≡◌, ◌+◌, ◌≤◌, ◌++◌, length, filter, find, position, map, option_to_list, vec_capacity};
 ghost use Rattle.std.specs.List.{before_first, after_first};
 ghost use Rattle.std.specs.Option.{option_copied, option_map};
-ghost use Rattle.std.specs.Prelude.{vec_capacity};
-ghost use Rattle.rad_core.specs.Requests.{is_kept_for, is_run_for, lasts_at, is_at};
+ghost use Rattle.rad_core.specs.Requests.{is_kept_for, is_run_for, lasts_at, is_at, LastTo};
 ghost use Rattle.rad_core.specs.Rows.{key_seen, kept_seen, row_seen};
 
 use crate::kept::Kept;
@@ -16,16 +15,18 @@ use std::marker::Model;
 use std::sync::Arc;
 
 /// The requests in progress, in the order of their places, and the replies that are kept for repeats, in the order of
-/// their finishes. There is room for the reply of each request in progress.
+/// their finishes. There is room for the reply of each request in progress. Each reply lasts to the moment `oldest`, so
+/// they are gone through once a second at most.
 #[derive(Drop)]
 pub(crate) struct Table<P> {
     in_progress: Vec<Row<P>>,
     kept: Vec<Kept>,
+    oldest: u64,
 }
 
 impl<P> Model for Table<P> {
     ghost use Rattle.std.specs.Prelude.{◌+◌, ◌≤◌, ◌<◌, ◌^◌, map, length, vec_capacity};
-    ghost use Rattle.rad_core.specs.Requests.{Requests};
+    ghost use Rattle.rad_core.specs.Requests.{Requests, LastTo};
     ghost use Rattle.rad_core.specs.Rows.{row_seen, kept_seen};
 
     ghost Value = { Requests P };
@@ -36,15 +37,14 @@ impl<P> Model for Table<P> {
     } };
 
     ghost invariant = { λ t. (length t.kept.items + length t.in_progress.items ≤ vec_capacity t.kept)
-        × (length t.kept.items + length t.in_progress.items < 2 ^ 32) };
+        × (length t.kept.items + length t.in_progress.items < 2 ^ 32)
+        × LastTo t.oldest (map kept_seen t.kept.items) };
 }
 
 impl<P: Drop> Table<P> {
     ghost use Rattle.std.specs.Prelude.{◌≡◌, ◌≤◌, ◌<◌, ◌+◌, ◌^◌, length, OnOk, OnErr, IfSome};
-    ghost use Rattle.std.specs.Arc.{arc_value};
-    ghost use Rattle.std.specs.Option.{option_copied, option_map};
-    ghost use Rattle.rad_outside.specs.Moments.{IsInTime};
-    ghost use Rattle.rad_core.specs.Requests.{no_requests, size_of, reply_for, place_for, table_at, with_row, without_request};
+    ghost use Rattle.std.specs.Option.{option_copied};
+    ghost use Rattle.rad_core.specs.Requests.{no_requests, size_of, reply_for, place_for, table_at, with_row};
     ghost use Rattle.rad_core.specs.Rows.{key_seen, row_seen};
 
     /// A table without an entry.
@@ -54,6 +54,7 @@ impl<P: Drop> Table<P> {
         Table {
             in_progress: Vec::new(alloc),
             kept: Vec::new(alloc),
+            oldest: 0,
         }
     }
 
@@ -68,7 +69,10 @@ impl<P: Drop> Table<P> {
     pub(crate) fn pass_to(&mut self, moment: u64)
         ensures { self.new ≡ table_at moment self.old }
     {
-        forget(&mut self.kept, moment);
+        if self.oldest < moment {
+            forget(&mut self.kept, moment);
+            self.oldest = moment;
+        }
     }
 
     /// The reply that is kept for a key, of at most 4,096 octets.
@@ -121,7 +125,9 @@ impl<P: Policy> Table<P> {
             return;
         };
         if let Some(reply) = reply {
-            self.kept.push_reserved(Kept::of(row, moment, reply));
+            let kept = Kept::of(row, moment, reply);
+            self.oldest = self.oldest.min(kept.until);
+            self.kept.push_reserved(kept);
         }
     }
 }
@@ -129,6 +135,7 @@ impl<P: Policy> Table<P> {
 /// Takes out the replies whose keeping time is over at a moment.
 fn forget(kept: &mut Vec<Kept>, moment: u64)
     ensures items { map kept_seen kept.new.items ≡ filter (lasts_at moment) (map kept_seen kept.old.items) }
+    ensures last { LastTo moment (map kept_seen kept.new.items) }
     ensures bound { length kept.new.items ≤ length kept.old.items }
     ensures room { vec_capacity kept.new ≡ vec_capacity kept.old }
 {
