@@ -1,12 +1,9 @@
 pub mod Walks
-pub mod ItemTurns
-pub mod ReadingLemmas
-pub mod RowLemmas
 pub mod Trials
-pub mod Outcomes
-pub mod Searching
-pub mod OperatorLaws
-pub mod Calls
+pub mod PlacesLemmas
+pub mod EntriesLemmas
+pub mod KnownPasswords
 pub mod NoLineEnds
 pub mod WrittenItems
+pub mod WrittenLines
 pub mod WrittenBack

@@ -1,15 +1,20 @@
 -- Printed texts have no line end, so that each is a line.
-use Rattle.std.proofs.Common.{◌≡◌, ℕ, ◌+◌, ◌/◌, ◌%◌, Bool, true, false, cond, ◌||◌, eqb, List, [], ◌∷◌, refl, sym, ap, ◌∙◌, arith}
+use Rattle.std.proofs.Common.{◌≡◌, ℕ, ◌+◌, ◌/◌, ◌%◌, Bool, true, false, not, cond, ◌||◌, eqb, List, [], ◌∷◌, ◌++◌, refl, sym, ap, ◌∙◌, arith}
 use Rattle.std.specs.Int.{is_in_range}
-use Rattle.std.specs.List.{flat_map}
-use Rattle.std.proofs.lemmas.Bool.{true≢false, or_from}
+use Rattle.std.specs.List.{list_any, list_all, flat_map}
+use Rattle.std.proofs.lemmas.Bool.{true≢false, ne_eqb, not_from_false, and_from, and_parts, or_parts, or_from}
+use Rattle.std.proofs.lemmas.List.Folds.{list_any-append}
 use Rattle.rad_words.specs.declared.attributes.AttrId.{AttrId}
 use Rattle.rad_value.specs.declared.values.Value.{Value}
 use Rattle.rad_value.specs.declared.values.Value.TheVariants as value
+use Rattle.rad_value.specs.declared.values.Pair.{Pair}
 use Rattle.rad_dict.specs.Definitions.{Definitions}
-use Rattle.rad_pairs.specs.ValueText.{escaped, quoted, value_text}
+use Rattle.rad_pairs.specs.ValueText.{escaped, quoted, attr_text, value_text, pair_text}
+use Rattle.rad_dict.specs.NameForms.{is_name_octet}
 use Rattle.rad_dict.specs.EveryDictionary.{IsDictionary}
-use Rattle.rad_pairs.specs.ReadingBack.{InRange}
+use Rattle.rad_value.specs.Kinds.{kind_of_value}
+use Rattle.rad_pairs.specs.ReadingBack.{IsOfKind, InRange}
+use Rattle.rad_pairs.proofs.Attributes.{attr_again}
 use Rattle.rad_pairs.proofs.Values.{IsNoText, value_again}
 use Rattle.rad_text.proofs.LineEnds.{ends_line, ends_none, has_line_end, none_joined}
 use Rattle.rad_dict.proofs.NameWords.{none_in_name}
@@ -41,7 +46,7 @@ none_quoted text = none_joined (flat_map escaped text) (34 ∷ []) (none_in_octe
 none_in_bare : (attr : AttrId) (v : Value) (dict : Definitions) → IsDictionary dict → InRange v → IsNoText v → has_line_end (value_text attr v dict) ≡ false
 none_in_bare attr v dict plain range bare = none_in_name (value_text attr v dict) (value_again attr v dict plain range bare).0.1
 
-pub none_in_value : (attr : AttrId) (v : Value) (dict : Definitions) → IsDictionary dict → InRange v → has_line_end (value_text attr v dict) ≡ false
+none_in_value : (attr : AttrId) (v : Value) (dict : Definitions) → IsDictionary dict → InRange v → has_line_end (value_text attr v dict) ≡ false
 none_in_value attr (value.Text text) dict plain range = none_quoted text
 none_in_value attr (value.Octets octets) dict plain range = none_in_bare attr (value.Octets octets) dict plain range tt
 none_in_value attr (value.Addr address) dict plain range = none_in_bare attr (value.Addr address) dict plain range tt
@@ -49,3 +54,9 @@ none_in_value attr (value.Number number) dict plain range = none_in_bare attr (v
 none_in_value attr (value.Date seconds) dict plain range = none_in_bare attr (value.Date seconds) dict plain range tt
 none_in_value attr (value.Byte number) dict plain range = none_in_bare attr (value.Byte number) dict plain range tt
 none_in_value attr (value.Short number) dict plain range = none_in_bare attr (value.Short number) dict plain range tt
+
+pub none_in_pair : (pair : Pair) (dict : Definitions) → IsDictionary dict → IsOfKind pair dict → has_line_end (pair_text pair dict) ≡ false
+none_in_pair pair dict plain fits =
+    let name = attr_again pair.attr dict (kind_of_value pair.value) plain fits.space fits.kind in
+    none_joined (attr_text pair.attr dict) (32 ∷ 61 ∷ 32 ∷ value_text pair.attr pair.value dict)
+    (none_in_name (attr_text pair.attr dict) name.0.1) (none_in_value pair.attr pair.value dict plain fits.value)

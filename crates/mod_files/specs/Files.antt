@@ -1,73 +1,25 @@
--- What the module `files` does in authorize: the check items and the reply items of the entries that match are done to the
--- control list and the reply list. After users(5) and the manual page rlm_files(5); that it stops at a full list is this
--- project's own.
-use Rattle.std.specs.Prelude.{ℕ, Bool, true, false, not, ◌&&◌, ◌||◌, List, [], ◌∷◌, ◌++◌, Option, Some, None, filter_map, codes, if◌then◌else◌}
+-- What the module `files` does to a request's lists in authorize: the entry of the User-Name has its check items done
+-- to the control list and then its reply items to the reply list. After users(5) and the manual page rlm_files(5);
+-- that it stops at a full list is this project's own.
+use Rattle.std.specs.Prelude.{ℕ, Bool, true, false, List, [], ◌∷◌, ◌++◌, Option, Some, None, unwrap_or, filter_map}
 use Rattle.std.specs.Option.{option_map}
-use Rattle.std.specs.List.{list_any}
-use Rattle.std.specs.Str.{str_eq_ignore_ascii_case}
 use Rattle.rad_words.specs.declared.attributes.AttrId.{AttrId}
-use Rattle.rad_words.specs.declared.attributes.Space.TheVariants.{Internal}
-use Rattle.rad_words.specs.Attribute.{same_attr}
+use Rattle.rad_words.specs.declared.attributes.Space.TheVariants.{Standard}
 use Rattle.rad_words.specs.declared.codes.Code.{Code}
 use Rattle.rad_words.specs.declared.codes.Code.TheVariants as code
-use Rattle.rad_value.specs.declared.values.Value.{Value}
-use Rattle.rad_value.specs.declared.values.Value.TheVariants as value
 use Rattle.rad_value.specs.declared.edits.Edit.{Edit}
 use Rattle.rad_value.specs.declared.edits.EditOp.{EditOp}
 use Rattle.rad_value.specs.declared.edits.EditOp.TheVariants as edit
 use Rattle.rad_value.specs.declared.edits.ListName.{ListName}
-use Rattle.rad_value.specs.declared.edits.ListName.TheVariants.{Request, Reply, Control}
+use Rattle.rad_value.specs.declared.edits.ListName.TheVariants.{Reply, Control}
+use Rattle.rad_value.specs.Pairs.{first_text}
 use Rattle.rad_value.specs.PairLists.{PairLists}
 use Rattle.rad_value.specs.Edit.{tried}
-use Rattle.rad_dict.specs.Definitions.{Definitions}
 use Rattle.rad_pairs.specs.declared.items.Item.{Item}
 use Rattle.rad_pairs.specs.declared.items.PairOp.{PairOp}
 use Rattle.rad_pairs.specs.declared.items.PairOp.TheVariants as op
 use Rattle.mod_files.specs.declared.entry.Entry.{Entry}
-use Rattle.mod_files.specs.declared.row.Row.{Row}
-use Rattle.mod_files.specs.Fits.{fits}
-
--- The internal attribute Fall-Through.
-abbrev pub fall_through : AttrId
-fall_through = record { space = Internal; number = 9 }
-
--- An item of Fall-Through.
-abbrev pub is_fall_through : Item → Bool
-is_fall_through item = same_attr item.attr fall_through
-
--- The operator `=`.
-abbrev pub is_equals : PairOp → Bool
-is_equals op.Eq = true
-is_equals op.Set = false
-is_equals op.Append = false
-is_equals op.Equal = false
-is_equals op.Differs = false
-is_equals op.Lt = false
-is_equals op.Le = false
-is_equals op.Gt = false
-is_equals op.Ge = false
-is_equals op.Match = false
-is_equals op.NoMatch = false
-is_equals op.Any = false
-is_equals op.None = false
-
--- The text `Yes`, in any case.
-abbrev pub is_yes : Value → Bool
-is_yes (value.Text text) = str_eq_ignore_ascii_case text (codes "Yes")
-is_yes (value.Octets octets) = false
-is_yes (value.Addr address) = false
-is_yes (value.Number number) = false
-is_yes (value.Date seconds) = false
-is_yes (value.Byte number) = false
-is_yes (value.Short number) = false
-
--- The item `Fall-Through = Yes`.
-abbrev pub goes_through : Item → Bool
-goes_through item = is_fall_through item && is_equals item.op && is_yes item.value
-
--- The search goes on behind an entry where it has the reply item `Fall-Through = Yes`.
-abbrev pub falls_through : Entry → Bool
-falls_through entry = list_any goes_through entry.replies
+use Rattle.mod_files.specs.Entries.{entry_of}
 
 -- The edit that an operator stands for. The others compare, and edit nothing.
 abbrev pub edit_op : PairOp → Option EditOp
@@ -85,24 +37,17 @@ edit_op op.NoMatch = None
 edit_op op.Any = None
 edit_op op.None = None
 
--- The edit of a list that an item stands for, if it isn't one of Fall-Through, which goes to no list.
+-- The edit of a list that an item stands for.
 abbrev pub edit_of : ListName → Item → Option Edit
-edit_of list item =
-    if is_fall_through item then None
-    else option_map (λ (o : EditOp). record { list = list; attr = item.attr; op = o; value = item.value }) (edit_op item.op)
+edit_of list item = option_map (λ (o : EditOp). record { list = list; attr = item.attr; op = o; value = item.value }) (edit_op item.op)
 
 -- The edits of a list that items stand for, in their order.
 abbrev pub edits_of : ListName → List Item → List Edit
 edits_of list items = filter_map (edit_of list) items
 
--- The edits of an entry, in the order in which they are done: those of the control list, and then those of the reply list.
+-- The edits of an entry, in the order in which they are done.
 abbrev pub entry_edits : Entry → List Edit
 entry_edits entry = edits_of Control entry.checks ++ edits_of Reply entry.replies
-
--- The edits of entries, in order.
-abbrev pub all_edits : List Entry → List Edit
-all_edits [] = []
-all_edits (entry ∷ entries) = entry_edits entry ++ all_edits entries
 
 -- The lists after these edits, up to the first whose list is full for it; and whether none was.
 abbrev pub all_tried : PairLists → List Edit → PairLists × Bool
@@ -112,59 +57,24 @@ all_tried lists (edit ∷ edits) = elim (tried lists edit) [
   | Some more ↦ all_tried more edits
 ]
 
--- The entries of a users file that match a request of this key, each tried in the lists that those before it left, up to the
--- first without `Fall-Through = Yes`.
-abbrev pub entries : List Row → List ℕ → Definitions → PairLists → List Entry
-entries [] key dict lists = []
-entries (row ∷ rows) key dict lists =
-    if fits row key lists.request dict
-    then row.entry ∷ (if falls_through row.entry then entries rows key dict (all_tried lists (entry_edits row.entry)).0 else [])
-    else entries rows key dict lists
+-- The code of a run that did all edits, or met a full list.
+abbrev pub code_of : Bool → Code
+code_of true = code.Ok
+code_of false = code.Fail
 
--- The code of a run in which an entry matched or not, and all edits were done or not.
-abbrev pub code_of : Bool → Bool → Code
-code_of false done = code.Noop
-code_of true true = code.Ok
-code_of true false = code.Fail
+-- The attribute User-Name (RFC 2865 section 5.1).
+abbrev pub user_name : AttrId
+user_name = record { space = Standard; number = 1 }
 
--- There is an entry.
-abbrev pub has_any : List Entry → Bool
-has_any [] = false
-has_any (entry ∷ entries) = true
+-- The key of a request: the text of its first User-Name, or the empty text.
+abbrev pub key_of : PairLists → List ℕ
+key_of lists = unwrap_or (first_text user_name lists.request) []
 
--- The lists and the code after these entries, where one matched before or not.
-abbrev pub done_by : Bool → List Entry → PairLists → PairLists × Code
-done_by found matched lists =
-    ((all_tried lists (all_edits matched)).0, code_of (found || has_any matched) (all_tried lists (all_edits matched)).1)
+-- What is done where this entry, if any, is the user's.
+abbrev pub entry_done : Option Entry → PairLists → PairLists × Code
+entry_done None lists = (lists, code.Noop)
+entry_done (Some entry) lists = let after = all_tried lists (entry_edits entry) in (after.0, code_of after.1)
 
--- The same after the entries that match.
-abbrev pub outcome : Bool → List Row → List ℕ → Definitions → PairLists → PairLists × Code
-outcome found rows key dict lists = done_by found (entries rows key dict lists) lists
-
--- The lists and the code that the module `files` makes of these lists, with these users, for this key.
-unfoldable pub files_done : List Row → List ℕ → Definitions → PairLists → PairLists × Code
-files_done rows key dict lists = outcome false rows key dict lists
-
--- Whether two lists are the same.
-abbrev pub same_list : ListName → ListName → Bool
-same_list Request Request = true
-same_list Request Reply = false
-same_list Request Control = false
-same_list Reply Request = false
-same_list Reply Reply = true
-same_list Reply Control = false
-same_list Control Request = false
-same_list Control Reply = false
-same_list Control Control = true
-
--- An edit is of this list and attribute.
-abbrev pub edits_that : ListName → AttrId → Edit → Bool
-edits_that list attr edit = same_list edit.list list && same_attr edit.attr attr
-
--- An entry edits this attribute of this list.
-abbrev pub row_edits : ListName → AttrId → Row → Bool
-row_edits list attr row = list_any (edits_that list attr) (entry_edits row.entry)
-
--- The frame of the module: the control items of its check items, and the reply items of its replies.
-unfoldable pub frame : List Row → ListName → AttrId → Bool
-frame rows list attr = list_any (row_edits list attr) rows
+-- The lists and the code that the module `files` makes of these lists, with these entries.
+unfoldable pub files_done : List Entry → PairLists → PairLists × Code
+files_done entries lists = entry_done (entry_of (key_of lists) entries) lists

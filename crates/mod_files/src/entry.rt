@@ -1,6 +1,8 @@
 //! An entry of a users file.
 
-use rad_outside::Octets;
+ghost use Rattle.std.specs.Prelude.{◌≡◌, IfOk};
+
+use rad_outside::{NoMemory, Octets};
 use rad_pairs::ItemList;
 
 /// An entry of a users file, as users(5) has it: its name, the check items behind the name, the reply items of the
@@ -11,4 +13,29 @@ pub struct Entry {
     pub checks: ItemList,
     pub replies: ItemList,
     pub line: u32,
+}
+
+impl Entry {
+    ghost use Rattle.mod_files.specs.Entries.{with_replies};
+
+    /// The entry with these reply items behind its own.
+    pub(crate) fn with_replies(self, items: ItemList) -> Result<Entry, NoMemory>
+        ensures { IfOk result (λ entry. entry ≡ with_replies items self) }
+    {
+        let Entry {
+            name,
+            checks,
+            replies,
+            line,
+        } = self;
+        let mut replies = replies.into_vec();
+        let mut items = items.into_vec();
+        replies.append(&mut items)?;
+        Ok(Entry {
+            name,
+            checks,
+            replies: ItemList::from_vec(replies),
+            line,
+        })
+    }
 }

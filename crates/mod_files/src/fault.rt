@@ -1,29 +1,15 @@
 //! Why a users file could not be read.
 
 use rad_outside::NoMemory;
-use rad_pairs::Spot;
 use std::alloc::{AllocError, AllocFailed};
 use thiserror::Error;
 
-/// The first fault of a users file, in reading order. Lines and columns are counted from 1, a column in octets.
+/// The first fault of a users file, in reading order.
 #[derive(Clone, Copy, Debug, PartialEq, Eq, Error)]
 pub enum UsersFault {
-    /// An item's name is no attribute's, at the name.
-    #[error("UnknownAttr")]
-    UnknownAttr(Spot),
-    /// No operator follows an item's name that an item may have there, at the name's end.
-    #[error("BadOperator")]
-    BadOperator(Spot),
-    /// An item's value is missing, can't be read, has an open quote or something behind it, at the value.
-    #[error("BadValue")]
-    BadValue(Spot),
-    /// A pattern is no UTF-8, or `regex` refuses it, at the value.
-    #[error("BadPattern")]
-    BadPattern(Spot),
-    /// An indented line stands before any entry, or the quote of an entry's name isn't closed, at the line's first
-    /// column.
-    #[error("BadEntry")]
-    BadEntry(Spot),
+    /// A line that isn't built or can't be read, counted from 1.
+    #[error("NotBuilt")]
+    NotBuilt(u32),
     #[error("NoMemory")]
     NoMemory,
 }
@@ -61,19 +47,6 @@ impl<T: Drop> From<AllocFailed<T>> for UsersFault {
     }
 }
 
-/// What is wrong with an item, by how many octets of its line are left from the place on.
+/// A line isn't built, or can't be read.
 #[derive(Clone, Copy, Debug, PartialEq, Eq)]
-pub enum Wrong {
-    UnknownAttr(usize),
-    BadOperator(usize),
-    BadValue(usize),
-}
-
-/// What is wrong with a line, beside its patterns, at its spot.
-#[derive(Clone, Copy, Debug, PartialEq, Eq)]
-pub enum LineFault {
-    UnknownAttr(Spot),
-    BadOperator(Spot),
-    BadValue(Spot),
-    BadEntry(Spot),
-}
+pub struct BadLine;

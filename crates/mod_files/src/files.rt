@@ -1,75 +1,122 @@
 //! The module `files`.
 
-ghost use Rattle.std.specs.Prelude.{◌≡◌, IfOk};
-ghost use Rattle.mod_files.specs.Module.{methods_of, does, edits};
-ghost use Rattle.rad_outside.specs.Moments.{IsInTime};
-ghost use Rattle.mod_files.specs.Framed.{is_lawful};
+ghost use Rattle.std.specs.Prelude.{◌≡◌, ◌∷◌, [], IfOk};
+ghost use Rattle.mod_files.specs.Files.{edit_op, edit_of, edits_of, entry_edits, all_tried, key_of, files_done};
 
-use crate::Users;
-use mod_base::{MethodSet, Module};
-use rad_dict::Dict;
+use crate::{Entry, Users};
 use rad_outside::NoMemory;
-use rad_value::Scope;
-use rad_words::{Code, Section};
-use rad_world::World;
+use rad_pairs::{Item, ItemList, PairOp};
+use rad_value::{Edit, EditOp, ListName, Lists};
+use rad_words::{AttrId, Code, Space};
 use std::alloc::Global;
-use unlang_xlat::Xlat;
 
-/// The kind `files`, after rlm_files(5): a users file, and the expansion that names the entry of a request, its key. In
-/// authorize the entries that match are done to the control list and the reply list.
-#[derive(Drop)]
-pub struct FilesModule {
-    users: Users,
-    key: Xlat,
-}
+/// The attribute whose value names the user.
+const USER_NAME: AttrId = AttrId {
+    space: Space::Standard,
+    number: 1,
+};
 
-impl FilesModule {
-    ghost use Rattle.std.specs.Prelude.{◌≡◌};
-    ghost use Rattle.mod_files.specs.Module.{users_of, key_of, authorized};
-
-    /// The module of users, which `Users::read` gave, and of a key.
-    pub fn new(users: Users, key: Xlat) -> FilesModule
-        ensures users { users_of result ≡ users }
-        ensures key { key_of result ≡ key }
-    {
-        FilesModule { users, key }
-    }
-
-    /// What the module does in authorize: `Ok` where an entry matched, `Fail` where a list was full, with the edits before
-    /// done, and `Noop` where no entry matched. After `NoMemory` the scope is given up.
-    pub fn authorize(&self, alloc: Global, scope: &mut Scope, dict: &Dict) -> Result<Code, NoMemory>
-        requires { IsInTime scope.old.moment }
-        ensures { IfOk result (λ code. (scope.new, code) ≡ authorized self.now dict.now scope.old) }
-    {
-        let key = self.key.expand(alloc, scope, dict)?;
-        self.users
-            .do_entries(alloc, key.as_slice(), &mut scope.lists, dict)
+/// The text of the request's first User-Name, or the empty text.
+fn key_of(lists: &Lists) -> &[u8]
+    ensures { result.now ≡ key_of lists.now }
+{
+    match lists.first_text(ListName::Request, USER_NAME) {
+        Some(name) => name,
+        None => &[],
     }
 }
 
-impl Module for FilesModule {
-    ghost meaning = { record {
-      methods = λ m. methods_of;
-      edits = λ m. edits m;
-      does = λ m dict method situation. does m dict situation;
-    } };
+/// The edit that an operator stands for.
+fn edit_op(op: PairOp) -> Option<EditOp>
+    ensures { result ≡ edit_op op }
+{
+    match op {
+        PairOp::Eq => Some(EditOp::AddIfNone),
+        PairOp::Set => Some(EditOp::Set),
+        PairOp::Append => Some(EditOp::Append),
+        PairOp::Equal
+        | PairOp::Differs
+        | PairOp::Lt
+        | PairOp::Le
+        | PairOp::Gt
+        | PairOp::Ge
+        | PairOp::Match
+        | PairOp::NoMatch
+        | PairOp::Any
+        | PairOp::None => None,
+    }
+}
 
-    fn methods(&self) -> MethodSet {
-        MethodSet {
-            methods: [true, false, false, false, false, false],
+/// The edit of a list that an item stands for.
+fn edit_of(alloc: Global, list: ListName, item: &Item) -> Result<Option<Edit>, NoMemory>
+    ensures { IfOk result (λ edit. edit ≡ edit_of list item.now) }
+{
+    let Some(op) = edit_op(item.op) else {
+        return Ok(None);
+    };
+    Ok(Some(Edit {
+        list,
+        attr: item.attr,
+        op,
+        value: item.value.try_clone(alloc)?,
+    }))
+}
+
+/// Does an item to a list, and answers whether the list wasn't full for it.
+fn do_item(alloc: Global, list: ListName, item: &Item, lists: &mut Lists) -> Result<bool, NoMemory>
+    ensures { IfOk result (λ done. (lists.new, done) ≡ all_tried lists.old (edits_of list (item.now ∷ []))) }
+{
+    match edit_of(alloc, list, item)? {
+        Some(edit) => lists.try_update(&edit),
+        None => Ok(true),
+    }
+}
+
+/// Does the items to a list in order, up to the first for which it is full, and answers whether there was none.
+fn do_items(
+    alloc: Global,
+    list: ListName,
+    items: &ItemList,
+    lists: &mut Lists,
+) -> Result<bool, NoMemory>
+    ensures { IfOk result (λ done. (lists.new, done) ≡ all_tried lists.old (edits_of list items.now)) }
+{
+    for n in 0..items.len() {
+        let Some(item) = items.get(n) else {
+            return Ok(true);
+        };
+        if !do_item(alloc, list, item, lists)? {
+            return Ok(false);
         }
     }
+    Ok(true)
+}
 
-    fn call<W: World>(
-        &self,
-        alloc: Global,
-        _method: Section,
-        scope: &mut Scope,
-        _world: &mut W,
-        dict: &Dict,
-    ) -> Result<Code, NoMemory> {
-        self.authorize(alloc, scope, dict)
+/// Does an entry's check items to the control list and then its reply items to the reply list.
+fn do_entry(alloc: Global, entry: &Entry, lists: &mut Lists) -> Result<bool, NoMemory>
+    ensures { IfOk result (λ done. (lists.new, done) ≡ all_tried lists.old (entry_edits entry.now)) }
+{
+    if !do_items(alloc, ListName::Control, &entry.checks, lists)? {
+        return Ok(false);
     }
+    do_items(alloc, ListName::Reply, &entry.replies, lists)
+}
 
-    ghost lawful = { λ m dict method situation. is_lawful m dict method situation };
+impl Users {
+    /// What the module `files` does in authorize, after users(5): the entry of the request's User-Name has its check
+    /// items done to the control list and its reply items to the reply list. `Ok` where there is such an entry, `Fail`
+    /// where a list is full, with the edits before done, and `Noop` where there is none. After `NoMemory` some of the
+    /// edits may be done, and the lists are given up.
+    pub fn authorize(&self, alloc: Global, lists: &mut Lists) -> Result<Code, NoMemory>
+        ensures { IfOk result (λ code. (lists.new, code) ≡ files_done self.now lists.old) }
+    {
+        let Some(entry) = self.find(key_of(lists)) else {
+            return Ok(Code::Noop);
+        };
+        if do_entry(alloc, entry, lists)? {
+            Ok(Code::Ok)
+        } else {
+            Ok(Code::Fail)
+        }
+    }
 }

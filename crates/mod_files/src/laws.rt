@@ -1,44 +1,16 @@
-//! What an operator relies on in a users file: facts about the definitions alone. The functions do nothing.
+//! The law of users files: what is written is read back. It is a fact about the definitions and every dictionary, and
+//! the function does nothing.
 
-ghost use Rattle.std.specs.Prelude.{◌≡◌, ℕ, List, [], ◌∷◌, ◌++◌, true, false};
-ghost use Rattle.rad_value.specs.PairLists.{PairLists};
-ghost use Rattle.rad_dict.specs.Definitions.{Definitions};
-ghost use Rattle.mod_files.specs.declared.row.Row.{Row};
-ghost use Rattle.mod_files.specs.declared.entry.Entry.{Entry};
-ghost use Rattle.mod_files.specs.declared.form.Form.{Form};
-ghost use Rattle.mod_files.specs.Reading.{drafts_of};
-ghost use Rattle.mod_files.specs.Written.{entries_text, numbered, AreWritable, AreBack};
-ghost use Rattle.mod_files.specs.Fits.{fits};
-ghost use Rattle.mod_files.specs.Files.{falls_through, files_done};
+ghost use Rattle.std.specs.Prelude.{◌≡◌, List, Ok};
+ghost use Rattle.mod_files.specs.Entries.{users_of};
+ghost use Rattle.mod_files.specs.Written.{User, users_text, entries_of, AreWritable};
 
 use rad_dict::Dict;
 
-/// The first entry that matches and doesn't fall through decides: what stands behind it in the file changes nothing.
-pub fn the_first_entry_without_fall_through_decides()
-    ensures { (front rest : List Row) (row : Row) (key : List ℕ) (dict : Definitions) (lists : PairLists)
-        → fits row key lists.request dict ≡ true → falls_through row.entry ≡ false
-        → files_done (front ++ row ∷ rest) key dict lists ≡ files_done (front ++ row ∷ []) key dict lists }
-{}
-
-/// An entry that doesn't match the request changes nothing, wherever it stands in the file.
-pub fn entries_that_do_not_match_change_nothing()
-    ensures { (front rest : List Row) (row : Row) (key : List ℕ) (dict : Definitions) (lists : PairLists)
-        → fits row key lists.request dict ≡ false
-        → files_done (front ++ row ∷ rest) key dict lists ≡ files_done (front ++ rest) key dict lists }
-{}
-
-/// The module edits the control list and the reply list alone: the request's pairs stay as they came.
-pub fn requests_stay_as_they_came()
-    ensures { (rows : List Row) (key : List ℕ) (dict : Definitions) (lists : PairLists)
-        → (files_done rows key dict lists).0.request ≡ lists.request }
-{}
-
-/// Entries that are written as a users file or as a filter file are read back, with all of their items, by every dictionary:
-/// wherever each item's operator may stand there, and its value is of its attribute's kind, a pattern a text, and what `=*`
-/// and `!*` have is empty.
+/// Users that are written as a users file are read back, each with its name, its password, its reply pairs and the
+/// number of its first line, wherever the names can be written bare and the values are of their attributes' kinds.
 pub fn written_users_are_read_back(dict: &Dict)
-    ensures { (form : Form) (entries : List Entry) → AreWritable form dict.now entries
-        → AreBack (numbered 1 entries) (drafts_of form (entries_text entries dict.now) dict.now) }
+    ensures { (users : List User) → AreWritable users dict.now → users_of (users_text users dict.now) dict.now ≡ Ok (entries_of 1 users) }
 {
     dict.each_name_means_one_thing();
 }

@@ -3,13 +3,9 @@
 ghost use Rattle.std.specs.Prelude.{◌≡◌, ◌+◌, ◌<◌, length, take, drop, not, position, find};
 ghost use Rattle.std.specs.List.{before_first, after_first};
 ghost use Rattle.rad_text.specs.Blanks.{is_blank};
-ghost use Rattle.rad_text.specs.Find.{Finds};
-ghost use Rattle.mod_files.specs.Lines.{is_passed, is_indented, is_quoted, head_of};
+ghost use Rattle.mod_files.specs.Lines.{is_passed, is_indented, is_name};
 
-use rad_outside::Octets;
-use rad_pairs::{NoValue, word_at};
-use rad_text::{ReadError, is_blank};
-use std::alloc::Global;
+use rad_text::is_blank;
 
 /// The place of the first blank.
 fn blank(line: &[u8]) -> Option<usize>
@@ -36,8 +32,8 @@ fn around(text: &[u8], place: usize) -> (&[u8], &[u8])
     (front, back)
 }
 
-/// The bare name at the front of a line, up to the first blank, and what stands behind that blank.
-fn name_and_rest(line: &[u8]) -> (&[u8], &[u8])
+/// The name at the front of a line, up to the first blank, and what stands behind that blank.
+pub fn name_and_rest(line: &[u8]) -> (&[u8], &[u8])
     ensures name { result.0.now ≡ before_first is_blank line.now }
     ensures rest { result.1.now ≡ after_first is_blank line.now }
 {
@@ -66,22 +62,9 @@ pub fn is_indented(line: &[u8]) -> bool
     }
 }
 
-fn is_quoted(line: &[u8]) -> bool
-    ensures { result ≡ is_quoted line.now }
+/// Whether a name is built: a bare one that isn't DEFAULT.
+pub fn is_name(name: &[u8]) -> bool
+    ensures { result ≡ is_name name.now }
 {
-    matches!(line, [b'"' | b'\'', ..])
-}
-
-/// The name at the front of an entry's first line, whether a blank stands behind it, and what follows. `NoValue` where the
-/// quote of the name isn't closed.
-#[tactic(auto, unfolding(crate::specs::Lines::head_of))]
-pub fn head_of(alloc: Global, line: &[u8]) -> Result<(Octets, bool, &[u8]), ReadError<NoValue>>
-    ensures { Finds (λ x. (x.0, x.1, x.2.now)) result (head_of line.now) }
-{
-    if is_quoted(line) {
-        let (name, rest) = word_at(alloc, line)?;
-        return Ok((name, false, rest));
-    }
-    let (name, rest) = name_and_rest(line);
-    Ok((Octets::of(alloc, name)?, true, rest))
+    !matches!(name, [b'"' | b'\'', ..]) && name != b"DEFAULT".as_slice()
 }

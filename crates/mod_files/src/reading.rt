@@ -1,129 +1,90 @@
 //! The entries of a users file, read line by line.
 
-ghost use Rattle.std.specs.Prelude.{◌≡◌, ℕ, List, ◌+◌, ◌∷◌, ◌≤◌, length, IfOk, true, Some, None};
-ghost use Rattle.std.specs.Option.{option_map};
-ghost use Rattle.mod_files.specs.Lines.{head_of};
-ghost use Rattle.mod_files.specs.Items.{items_of};
-ghost use Rattle.mod_files.specs.Reading.{bad_entry, replied, begun, after_line, drafts_of};
+ghost use Rattle.std.specs.Prelude.{◌≡◌, ℕ, List, ◌+◌, ◌∷◌, ◌≤◌, length, IfOk, OnOk, IfErr, Ok, Some};
+ghost use Rattle.rad_text.specs.Answers.{Continues, IsFault};
+ghost use Rattle.mod_files.specs.Entries.{says, entries_from, users_of, IsRefused, entries_with, last_with_replies};
 
-use crate::draft::{Draft, Drafts};
-use crate::fault::LineFault;
-use crate::form::Form;
-use crate::items::{Cut, items_of};
-use crate::lines::{head_of, is_indented, is_passed};
-use crate::placed::PlacedList;
+use crate::Entry;
+use crate::fault::{BadLine, UsersFault};
+use crate::line::{Line, line_of};
 use rad_dict::Dict;
-use rad_outside::NoMemory;
-use rad_pairs::Spot;
+use rad_outside::Octets;
+use rad_pairs::ItemList;
 use rad_text::{ReadError, first_line};
 use std::alloc::Global;
 
-/// The fault of a line that may not stand there, or whose name has an open quote.
-fn bad_entry(line: u32) -> LineFault
-    ensures { result ≡ bad_entry line }
-{
-    LineFault::BadEntry(Spot { line, column: 1 })
-}
-
-/// Adds the items of an indented line to the last entry, and answers the fault.
-fn add_replies(
-    alloc: Global,
-    form: Form,
-    drafts: &mut Vec<Draft>,
-    number: u32,
-    line: &[u8],
-    dict: &Dict,
-) -> Result<Option<LineFault>, NoMemory>
-    ensures ok { IfOk result (λ wrong. (drafts.new.items, wrong)
-        ≡ replied number (items_of form true number (length line.now) line.now dict.now) drafts.old.items) }
-    ensures bound { length drafts.new.items ≤ length drafts.old.items }
-{
-    let Some(draft) = drafts.pop() else {
-        return Ok(Some(bad_entry(number)));
-    };
-    let Cut { items, wrong } = items_of(alloc, form, true, number, line.len(), line, dict)?;
-    drafts.push(draft.with_replies(items)?)?;
-    Ok(wrong)
-}
-
-/// Begins the entry of a line, and answers the fault.
+/// Begins an entry on the line of this number.
 fn begin_entry(
     alloc: Global,
-    drafts: &mut Vec<Draft>,
-    number: u32,
-    line: &[u8],
-    dict: &Dict,
-) -> Result<Option<LineFault>, NoMemory>
-    ensures ok { IfOk result (λ wrong. (drafts.new.items, wrong)
-        ≡ begun number (length line.now) drafts.old.items dict.now (head_of line.now)) }
-    ensures bound { length drafts.new.items ≤ length drafts.old.items + 1 }
+    entries: &mut Vec<Entry>,
+    name: Octets,
+    checks: ItemList,
+    line: u32,
+) -> Result<(), UsersFault>
+    ensures ok { OnOk result (entries_with line (Line.Head name checks) entries.old.items ≡ Some entries.new.items) }
+    ensures err { IfErr result (λ fault. fault ≡ UsersFault.NoMemory) }
+    ensures bound { length entries.new.items ≤ length entries.old.items + 1 }
 {
-    let (name, parted, rest) = match head_of(alloc, line) {
-        Ok(head) => head,
-        Err(ReadError::Wrong(_)) => return Ok(Some(bad_entry(number))),
-        Err(ReadError::NoMemory) => return Err(NoMemory),
-    };
-    let Cut { items, wrong } = items_of(
-        alloc,
-        Form::Check,
-        parted,
-        number,
-        line.len(),
-        rest,
-        dict,
-    )?;
-    drafts.push(Draft {
+    let replies = ItemList::from_vec(Vec::new(alloc));
+    entries.push(Entry {
         name,
-        checks: items,
-        replies: PlacedList::from_vec(Vec::new(alloc)),
-        line: number,
+        checks,
+        replies,
+        line,
     })?;
-    Ok(wrong)
+    Ok(())
 }
 
-/// Takes the next line, which has this number, and answers its fault.
-#[tactic(auto, unfolding(crate::specs::Reading::after_line))]
+/// Adds reply items to the last entry.
+fn add_replies(entries: &mut Vec<Entry>, items: ItemList, line: u32) -> Result<(), UsersFault>
+    ensures ok { OnOk result (last_with_replies items entries.old.items ≡ Some entries.new.items) }
+    ensures err { IfErr result (IsRefused line (last_with_replies items entries.old.items)) }
+    ensures bound { length entries.new.items ≤ length entries.old.items }
+{
+    let Some(entry) = entries.pop() else {
+        return Err(UsersFault::NotBuilt(line));
+    };
+    entries.push(entry.with_replies(items)?)?;
+    Ok(())
+}
+
+/// Takes the next line, which has this number.
 fn take_line(
     alloc: Global,
-    form: Form,
-    drafts: &mut Vec<Draft>,
+    entries: &mut Vec<Entry>,
     number: u32,
     line: &[u8],
     dict: &Dict,
-) -> Result<Option<LineFault>, NoMemory>
-    ensures ok { IfOk result (λ wrong. (drafts.new.items, wrong)
-        ≡ after_line form number drafts.old.items line.now dict.now) }
-    ensures bound { length drafts.new.items ≤ length drafts.old.items + 1 }
+) -> Result<(), UsersFault>
+    ensures exact { (more : List (List ℕ)) → Continues says
+        (entries_from number entries.old.items (line.now ∷ more) dict.now)
+        (entries_from (number + 1) entries.new.items more dict.now) result }
+    ensures bound { length entries.new.items ≤ length entries.old.items + 1 }
 {
-    if is_passed(line) {
-        return Ok(None);
+    match line_of(alloc, line, dict) {
+        Ok(Line::Passed) => Ok(()),
+        Ok(Line::Head(name, checks)) => begin_entry(alloc, entries, name, checks, number),
+        Ok(Line::Replies(items)) => add_replies(entries, items, number),
+        Err(ReadError::Wrong(BadLine)) => Err(UsersFault::NotBuilt(number)),
+        Err(ReadError::NoMemory) => Err(UsersFault::NoMemory),
     }
-    if is_indented(line) {
-        return add_replies(alloc, form, drafts, number, line, dict);
-    }
-    begin_entry(alloc, drafts, number, line, dict)
 }
 
-/// The entries of a text, whose reply items stand in this form, up to its first fault; no pattern is tried.
-pub fn drafts_of(alloc: Global, form: Form, text: &[u8], dict: &Dict) -> Result<Drafts, NoMemory>
+/// The entries of a text.
+pub fn read_entries(alloc: Global, text: &[u8], dict: &Dict) -> Result<Vec<Entry>, UsersFault>
     requires { length text.now ≤ 4194304 }
-    ensures read { IfOk result (λ read. (read.drafts.items, read.wrong) ≡ drafts_of form text.now dict.now) }
-    ensures bound { IfOk result (λ read. length read.drafts.items ≤ length text.now) }
+    ensures ok { IfOk result (λ entries. users_of text.now dict.now ≡ Ok entries.items) }
+    ensures bound { IfOk result (λ entries. length entries.items ≤ length text.now) }
+    ensures err { IfErr result (λ fault. IsFault says (users_of text.now dict.now) fault) }
 {
-    let mut drafts = Vec::new(alloc);
+    let mut entries = Vec::new(alloc);
     let mut rest = text;
     let mut number = 1;
     while !rest.is_empty() {
         let (line, after) = first_line(rest);
-        let wrong = take_line(alloc, form, &mut drafts, number, line, dict)?;
-        if wrong.is_some() {
-            return Ok(Drafts { drafts, wrong });
-        }
+        take_line(alloc, &mut entries, number, line, dict)?;
         rest = after;
         number += 1;
     }
-    Ok(Drafts {
-        drafts,
-        wrong: None,
-    })
+    Ok(entries)
 }

@@ -1,233 +1,105 @@
-//! The users of a users file.
+//! The entries of a users file, with an index by name.
 
-ghost use Rattle.std.specs.Prelude.{◌≡◌, ◌≤◌, length, slice_get, IfOk};
+ghost use Rattle.std.specs.Prelude.{◌≡◌, ℕ, List, [], ◌≤◌, length, slice_get, IfOk};
 ghost use Rattle.std.specs.Option.{option_copied};
-ghost use Rattle.mod_files.specs.Users.{fault_of};
+ghost use Rattle.mod_files.specs.Places.{place_in, place_of};
 
-use crate::draft::Drafts;
-use crate::fault::LineFault;
-use crate::fits::{check_fits, fits, reply_met};
-use crate::form::Form;
-use crate::reading::drafts_of;
-use crate::row::{Row, rows_of};
-use crate::search::{Next, default_key, name_key, names_of, next_place, try_row};
+use crate::reading::read_entries;
 use crate::{Entry, UsersFault};
 use rad_dict::Dict;
-use rad_index::Index;
 use rad_outside::NoMemory;
-use rad_text::ReadError;
-use rad_value::{Lists, Scope, Value};
-use rad_words::Code;
 use std::alloc::Global;
+use std::collections::BTreeMap;
 use std::marker::Model;
 
-/// The entries of a users file, in file order, with their patterns compiled. The entries of a name are found without a look
-/// at those of other names.
-#[derive(Drop)]
+/// The entries of a users file, in file order. The first entry of a name is found without a look at the others.
+#[derive(Debug, Drop)]
 pub struct Users {
-    rows: Vec<Row>,
-    names: Index,
+    entries: Vec<Entry>,
+    places: BTreeMap<Vec<u8>, usize>,
 }
 
 impl Model for Users {
-    ghost use Rattle.std.specs.Prelude.{◌≡◌, List, ◌≤◌, length, map};
-    ghost use Rattle.mod_files.specs.declared.row.Row.{Row};
-    ghost use Rattle.std.specs.Coded.{codes};
-    ghost use Rattle.mod_files.specs.contracts.row.Row as row;
-    ghost use Rattle.mod_files.specs.Search.{row_key};
+    ghost use Rattle.std.specs.Prelude.{◌≡◌, ℕ, List, ◌≤◌, length};
+    ghost use Rattle.mod_files.specs.declared.entry.Entry.{Entry};
+    ghost use Rattle.mod_files.specs.Places.{place_in, place_of};
 
-    ghost Value = { List Row };
+    ghost Value = { List Entry };
 
-    ghost coded = { Prim.hlevel (codes, row.the_row.coded) };
-
-    ghost view = { λ u. u.rows.items };
+    ghost view = { λ u. u.entries.items };
 
     ghost invariant = { λ u. record {
-      names : u.names ≡ map row_key u.rows.items;
-      bound : length u.rows.items ≤ 4194304;
+      places : (name : List ℕ) → place_in u.places name ≡ place_of name 0 u.entries.items;
+      bound : length u.entries.items ≤ 4194304;
     } };
 }
 
-/// The fault of a users file that a line has.
-fn fault_of(wrong: LineFault) -> UsersFault
-    ensures { result ≡ fault_of wrong }
-{
-    match wrong {
-        LineFault::UnknownAttr(spot) => UsersFault::UnknownAttr(spot),
-        LineFault::BadOperator(spot) => UsersFault::BadOperator(spot),
-        LineFault::BadValue(spot) => UsersFault::BadValue(spot),
-        LineFault::BadEntry(spot) => UsersFault::BadEntry(spot),
-    }
-}
-
-/// The row of a place, if there is one.
-fn row_at(rows: &[Row], place: usize) -> Option<&Row>
-    ensures { option_copied result ≡ slice_get rows.now place }
-{
-    rows.get(place)
-}
-
 impl Users {
-    ghost use Rattle.std.specs.Prelude.{[], IfErr};
-    ghost use Rattle.mod_files.specs.declared.form.Form.TheVariants as form;
-    ghost use Rattle.mod_files.specs.Rows.{entries_in};
-    ghost use Rattle.mod_files.specs.Fits.{fits_at, item_fits_at, reply_meets_at};
-    ghost use Rattle.mod_files.specs.Files.{files_done};
-    ghost use Rattle.mod_files.specs.Users.{IsReadAs, IsFaultOf};
+    ghost use Rattle.rad_text.specs.Answers.{IsAnswer};
+    ghost use Rattle.mod_files.specs.Entries.{says, users_of, entry_of};
 
     /// No entries.
     pub fn new(alloc: Global) -> Users
         ensures { result ≡ [] }
     {
         Users {
-            rows: Vec::new(alloc),
-            names: Index::new(alloc),
+            entries: Vec::new(alloc),
+            places: BTreeMap::new(alloc),
         }
     }
 
-    /// The entries of a text whose reply items stand in this form.
-    fn read_form(alloc: Global, form: Form, text: &[u8], dict: &Dict) -> Result<Users, UsersFault>
-        requires { length text.now ≤ 4194304 }
-        ensures read { IfOk result (λ users. IsReadAs form users text.now dict.now) }
-        ensures fault { IfErr result (λ fault. IsFaultOf fault form text.now dict.now) }
-    {
-        let Ok(Drafts { drafts, wrong }) = drafts_of(alloc, form, text, dict) else {
-            return Err(UsersFault::NoMemory);
-        };
-        let rows = match rows_of(alloc, drafts) {
-            Ok(rows) => rows,
-            Err(ReadError::Wrong(spot)) => return Err(UsersFault::BadPattern(spot)),
-            Err(ReadError::NoMemory) => return Err(UsersFault::NoMemory),
-        };
-        if let Some(wrong) = wrong {
-            return Err(fault_of(wrong));
-        }
-        let Ok(names) = names_of(alloc, rows.as_slice()) else {
-            return Err(UsersFault::NoMemory);
-        };
-        Ok(Users { rows, names })
-    }
-
-    /// The entries of a users file, or its first fault in reading order, after users(5). For each item UnknownAttr comes
-    /// before BadOperator, that before BadValue, and that before BadPattern. A text has at most 4 MiB, so that its lines are
-    /// counted in 32 bits.
+    /// The entries of a users file, or its first fault in reading order, after users(5). A text has at most 4 MiB, so
+    /// that its lines are counted in 32 bits.
     pub fn read(alloc: Global, text: &[u8], dict: &Dict) -> Result<Users, UsersFault>
         requires { length text.now ≤ 4194304 }
-        ensures read { IfOk result (λ users. IsReadAs form.Reply users text.now dict.now) }
-        ensures fault { IfErr result (λ fault. IsFaultOf fault form.Reply text.now dict.now) }
+        ensures { IsAnswer says (users_of text.now dict.now) result }
     {
-        Users::read_form(alloc, Form::Reply, text, dict)
-    }
-
-    /// The entries of a filter file, after rlm_attr_filter(5): a users file whose reply items take every operator but `=` and
-    /// `+=`.
-    pub fn read_filter(alloc: Global, text: &[u8], dict: &Dict) -> Result<Users, UsersFault>
-        requires { length text.now ≤ 4194304 }
-        ensures read { IfOk result (λ users. IsReadAs form.Filter users text.now dict.now) }
-        ensures fault { IfErr result (λ fault. IsFaultOf fault form.Filter text.now dict.now) }
-    {
-        Users::read_form(alloc, Form::Filter, text, dict)
+        let entries = read_entries(alloc, text, dict)?;
+        let places = places_of(alloc, entries.as_slice())?;
+        Ok(Users { entries, places })
     }
 
     /// How many entries there are.
     pub fn len(&self) -> u32
         ensures { result ≡ length self.now }
     {
-        self.rows.len() as u32
+        self.entries.len() as u32
     }
 
-    /// The n-th entry, counted from 0, or none exactly where n is at least `len`.
+    /// The n-th entry, counted from 0.
     pub fn get(&self, n: u32) -> Option<&Entry>
-        ensures { option_copied result ≡ slice_get (entries_in self.now) n }
+        ensures { option_copied result ≡ slice_get self.now n }
     {
-        match self.rows.get(n as usize) {
-            Some(row) => Some(&row.entry),
+        self.entries.get(n as usize)
+    }
+
+    /// The first entry of this name, compared octet by octet.
+    pub fn find(&self, name: &[u8]) -> Option<&Entry>
+        ensures { option_copied result ≡ entry_of name.now self.now }
+    {
+        match self.places.get(name) {
+            Some(place) => entry_at(self.entries.as_slice(), *place),
             None => None,
         }
     }
+}
 
-    /// Whether a check item of an entry matches the request, both counted from 0. It doesn't where there is no such item.
-    pub fn item_fits(
-        &self,
-        alloc: Global,
-        n: u32,
-        item: u32,
-        scope: &Scope,
-        dict: &Dict,
-    ) -> Result<bool, NoMemory>
-        ensures { IfOk result (λ fit. fit ≡ item_fits_at self.now n item scope.now.lists.request dict.now) }
-    {
-        match self.rows.get(n as usize) {
-            Some(row) => check_fits(alloc, row, item as usize, &scope.lists, dict),
-            None => Ok(false),
-        }
-    }
+fn entry_at(entries: &[Entry], place: usize) -> Option<&Entry>
+    ensures { option_copied result ≡ slice_get entries.now place }
+{
+    entries.get(place)
+}
 
-    /// Whether an entry, counted from 0, matches the request under a key: its name is DEFAULT or the key, and all of its check
-    /// items match. It doesn't where there is no such entry.
-    pub fn fits(
-        &self,
-        alloc: Global,
-        n: u32,
-        key: &[u8],
-        scope: &Scope,
-        dict: &Dict,
-    ) -> Result<bool, NoMemory>
-        ensures { IfOk result (λ fit. fit ≡ fits_at self.now n key.now scope.now.lists.request dict.now) }
-    {
-        match self.rows.get(n as usize) {
-            Some(row) => fits(alloc, row, key, &scope.lists, dict),
-            None => Ok(false),
-        }
+/// The place of the first entry of each name.
+fn places_of(alloc: Global, entries: &[Entry]) -> Result<BTreeMap<Vec<u8>, usize>, NoMemory>
+    ensures { IfOk result (λ places. (name : List ℕ) → place_in places name ≡ place_of name 0 entries.now) }
+{
+    let mut places = BTreeMap::new(alloc);
+    let mut n = entries.len();
+    while n > 0 {
+        n -= 1;
+        let name = Vec::from_slice(alloc, entries[n].name.as_slice())?;
+        places.insert(name, n)?;
     }
-
-    /// Whether a value meets a reply item of an entry, both counted from 0, by the rule of filters: `:=` and `=*` are met by
-    /// every value, `!*` by none, `=~` and `!~` by the value's text, and the others are comparisons. No value meets `=` or `+=`,
-    /// nor an item that isn't there.
-    pub fn reply_meets(
-        &self,
-        alloc: Global,
-        n: u32,
-        item: u32,
-        value: &Value,
-        dict: &Dict,
-    ) -> Result<bool, NoMemory>
-        ensures { IfOk result (λ met. met ≡ reply_meets_at self.now n item value.now dict.now) }
-    {
-        match self.rows.get(n as usize) {
-            Some(row) => reply_met(alloc, row, item as usize, value, dict),
-            None => Ok(false),
-        }
-    }
-
-    /// Does to the lists what the entries that match the request under a key say, and answers the code: `Ok` where an entry
-    /// matched, `Fail` where a list was full, with the edits before done, and `Noop` where none matched. After `NoMemory` some
-    /// of the edits may be done, and the lists are given up.
-    pub(crate) fn do_entries(
-        &self,
-        alloc: Global,
-        key: &[u8],
-        lists: &mut Lists,
-        dict: &Dict,
-    ) -> Result<Code, NoMemory>
-        ensures { IfOk result (λ code. (lists.new, code) ≡ files_done self.now key.now dict.now lists.old) }
-    {
-        let rows = self.rows.as_slice();
-        let mut named = self.names.places(name_key(key));
-        let mut others = self.names.places(default_key());
-        let mut found = false;
-        while let Some((place, more_named, more_others)) = next_place(named, others) {
-            let Some(row) = row_at(rows, place) else {
-                return Ok(Code::Noop);
-            };
-            match try_row(alloc, row, key, lists, dict)? {
-                Next::Passed => {}
-                Next::Through => found = true,
-                Next::Ends(code) => return Ok(code),
-            }
-            named = more_named;
-            others = more_others;
-        }
-        Ok(if found { Code::Ok } else { Code::Noop })
-    }
+    Ok(places)
 }

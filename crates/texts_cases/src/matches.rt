@@ -3,7 +3,7 @@
 use crate::given_files::one_file;
 use crate::requests::scope_of;
 use crate::users_files::{filter_in, users_fault, users_in};
-use mod_files::Users;
+use mod_users::Users;
 use rad_dict::Dict;
 use rad_outside::NoMemory;
 use rad_pairs::read_pairs;

@@ -3,7 +3,7 @@
 use crate::requests::scope_of;
 use crate::users_files::{users_fault, users_in};
 use crate::values::{push_attribute, push_value};
-use mod_files::FilesModule;
+use mod_users::FilesModule;
 use rad_dict::Dict;
 use rad_outside::NoMemory;
 use rad_value::{ListName, Lists, Pair, Scope, Value};

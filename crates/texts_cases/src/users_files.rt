@@ -1,7 +1,7 @@
 //! Users files, and look-ups in them.
 
 use crate::values::push_items;
-use mod_files::{Entry, Users, UsersFault};
+use mod_users::{Entry, Users, UsersFault};
 use rad_dict::Dict;
 use rad_outside::NoMemory;
 use rad_pairs::Spot;

@@ -1,0 +1,12 @@
+pub mod Walks
+pub mod ItemTurns
+pub mod ReadingLemmas
+pub mod RowLemmas
+pub mod Trials
+pub mod Outcomes
+pub mod Searching
+pub mod OperatorLaws
+pub mod Calls
+pub mod NoLineEnds
+pub mod WrittenItems
+pub mod WrittenBack

@@ -1,0 +1,14 @@
+pub mod Forms
+pub mod ItemParts
+pub mod Items
+pub mod Lines
+pub mod Reading
+pub mod Patterns
+pub mod Rows
+pub mod Users
+pub mod Fits
+pub mod Files
+pub mod Search
+pub mod Module
+pub mod Framed
+pub mod Written
