@@ -16,6 +16,7 @@ is_first (fault.Conf wrong) read then_read total h so_far = sym so_far ∙ ap (�
 is_first (fault.Dict wrong) read then_read total h so_far = sym so_far ∙ ap (λ r. r >>= then_read) h
 is_first (fault.Users file wrong) read then_read total h so_far = sym so_far ∙ ap (λ r. r >>= then_read) h
 is_first (fault.Tree wrong) read then_read total h so_far = sym so_far ∙ ap (λ r. r >>= then_read) h
+is_first (fault.UnknownModule place kind) read then_read total h so_far = sym so_far ∙ ap (λ r. r >>= then_read) h
 is_first (fault.BadSetting place name) read then_read total h so_far = sym so_far ∙ ap (λ r. r >>= then_read) h
 is_first fault.ReadFault read then_read total h so_far = h
 is_first fault.NoMemory read then_read total h so_far = tt

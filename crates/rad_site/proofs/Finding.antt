@@ -15,6 +15,7 @@ misses (fault.Conf wrong) read fails = fails
 misses (fault.Dict wrong) read fails = fails
 misses (fault.Users file wrong) read fails = fails
 misses (fault.Tree wrong) read fails = fails
+misses (fault.UnknownModule place kind) read fails = fails
 misses (fault.BadSetting place name) read fails = fails
 misses fault.ReadFault read fails = tt
 misses fault.NoMemory read fails = tt
@@ -36,6 +37,7 @@ misses_first (fault.Conf wrong) read then_read is = ap (λ r. r >>= then_read) i
 misses_first (fault.Dict wrong) read then_read is = ap (λ r. r >>= then_read) is
 misses_first (fault.Users file wrong) read then_read is = ap (λ r. r >>= then_read) is
 misses_first (fault.Tree wrong) read then_read is = ap (λ r. r >>= then_read) is
+misses_first (fault.UnknownModule place kind) read then_read is = ap (λ r. r >>= then_read) is
 misses_first (fault.BadSetting place name) read then_read is = ap (λ r. r >>= then_read) is
 misses_first fault.ReadFault read then_read is = tt
 misses_first fault.NoMemory read then_read is = tt
