@@ -4,3 +4,4 @@ pub mod Running
 pub mod Looping
 pub mod Finding
 pub mod FrameLaws
+pub mod Keeping

@@ -3,3 +3,4 @@ pub mod Sections
 pub mod Run
 pub mod Serving
 pub mod Frames
+pub mod Leaves

@@ -7,12 +7,13 @@ ghost use Rattle.rad_words.specs.declared.codes.Code.TheVariants as code;
 ghost use Rattle.rad_words.specs.declared.sections.Section.{Section};
 ghost use Rattle.rad_words.specs.declared.attributes.AttrId.{AttrId};
 ghost use Rattle.rad_value.specs.declared.edits.ListName.{ListName};
-ghost use Rattle.rad_value.specs.PairLists.{list_of};
+ghost use Rattle.rad_value.specs.PairLists.{PairLists, list_of};
 ghost use Rattle.rad_value.specs.Pairs.{values_of};
 ghost use Rattle.rad_dict.specs.Definitions.{Definitions};
 ghost use Rattle.mod_base.specs.Situation.{Situation};
 ghost use Rattle.unlang_tree.specs.declared.statement.Statement.{Statement};
 ghost use Rattle.unlang_code.specs.Frames.{edits_of};
+ghost use Rattle.unlang_code.specs.Leaves.{EachLeaf, LeafKeeps};
 ghost use Rattle.unlang_code.specs.Run.{section_done};
 ghost use Rattle.rad_tables.specs.declared.action_table.Action.TheVariants as action;
 ghost use Rattle.unlang_tree.specs.declared.policies.ServerTree.{ServerTree};
@@ -44,4 +45,17 @@ pub fn found_sections_stand()
 pub fn sections_keep_their_frames<M: Module>()
     ensures { (stack : List M) (dict : Definitions) (kind : Section) (statements : List Statement) (situation : Situation) (list : ListName) (attr : AttrId) → edits_of M.meaning stack statements list attr ≡ false
         → values_of attr (list_of (section_done M.meaning stack dict kind statements situation).0.scope.lists list) ≡ values_of attr (list_of situation.scope.lists list) }
+{}
+
+/// A fact of the three lists of a request, for the law below.
+pub trait ListFact {
+    /// The lists are so.
+    ghost holds: { PairLists → Type 0 };
+}
+
+/// Whatever is true of the lists and stays true at each call of a module and at each line of an update in a section,
+/// whatever the situation, is true of them behind the section too.
+pub fn sections_keep_what_their_statements_keep<M: Module, F: ListFact>()
+    ensures { (stack : List M) (dict : Definitions) (kind : Section) (statements : List Statement) → EachLeaf (LeafKeeps F.holds M.meaning stack dict kind) statements
+        → (situation : Situation) → F.holds situation.scope.lists → F.holds (section_done M.meaning stack dict kind statements situation).0.scope.lists }
 {}

@@ -13,7 +13,10 @@ mod run;
 mod section_id;
 mod table;
 
-pub use laws::{found_sections_stand, groups_answer_as_their_children, sections_keep_their_frames};
+pub use laws::{
+    ListFact, found_sections_stand, groups_answer_as_their_children, sections_keep_their_frames,
+    sections_keep_what_their_statements_keep,
+};
 pub use observer::{Observer, Silent};
 pub use section_id::SectionId;
 pub use table::{Table, compile};
