@@ -1,3 +1,5 @@
 mod InstanceLemmas
 mod Walks
 mod WrittenCalls
+mod Binds
+mod CallsMet

@@ -7,4 +7,5 @@ pub mod Sites
 pub mod Statements
 pub mod Sections
 pub mod Policies
+pub mod EachCall
 pub mod Written

@@ -1,12 +1,14 @@
 //! The source trees of a site's servers.
 
-ghost use Rattle.std.specs.Prelude.{◌≡◌};
+ghost use Rattle.std.specs.Prelude.{◌≡◌, IfOk};
 
 use crate::statement::Statements;
-use rad_outside::Octets;
+use rad_outside::{NoMemory, Octets};
 use rad_words::Section;
 use sqlite_items::Items;
+use std::alloc::Global;
 use std::marker::Model;
+use std::sync::Arc;
 
 /// A subsection of a section, as `Auth-Type NAME { .. }` in authenticate.
 #[derive(Debug, Drop)]
@@ -36,27 +38,38 @@ pub struct ServerTree {
     pub sections: Sections,
 }
 
-/// The source trees of all servers of a site, in the order of the configuration.
+/// The source trees of all servers of a site, in the order of the configuration. They are shared, so that a second
+/// holder of them copies nothing.
 #[derive(Debug, Drop)]
 pub struct Policies {
-    servers: Items<ServerTree>,
+    servers: Arc<Items<ServerTree>>,
 }
 
 impl Model for Policies {
     ghost use Rattle.std.specs.Prelude.{List};
+    ghost use Rattle.std.specs.Arc.{arc_value};
     ghost use Rattle.unlang_tree.specs.declared.policies.ServerTree.{ServerTree};
 
     ghost Value = { List ServerTree };
 
-    ghost view = { λ p. p.servers };
+    ghost view = { λ p. arc_value p.servers };
 }
 
 impl Policies {
     /// The policies of these servers.
-    pub fn of(servers: Items<ServerTree>) -> Policies
-        ensures { result ≡ servers }
+    pub fn of(alloc: Global, servers: Items<ServerTree>) -> Result<Policies, NoMemory>
+        ensures { IfOk result (λ policies. policies ≡ servers) }
     {
-        Policies { servers }
+        let servers = Arc::new(alloc, servers)?;
+        Ok(Policies { servers })
+    }
+
+    /// The same policies, held once more.
+    pub fn try_clone(&self) -> Result<Policies, NoMemory>
+        ensures { IfOk result (λ policies. policies ≡ self.now) }
+    {
+        let servers = Arc::try_clone(&self.servers)?;
+        Ok(Policies { servers })
     }
 
     /// The servers, in the order of the configuration.

@@ -33,6 +33,6 @@ impl Tree {
             instances,
         };
         let servers = servers_of(alloc, &site)?;
-        Ok(Policies::of(servers))
+        Ok(Policies::of(alloc, servers)?)
     }
 }

@@ -1,0 +1,327 @@
+-- Each call that is read is of an instance that is there and has a method for its section.
+use Rattle.std.proofs.Common.{codes, ◌≡◌, ℕ, ◌-◌, Bool, true, false, not, ◌&&◌, ◌||◌, cond, if◌then◌else◌, List, [], ◌∷◌, ◌++◌, length, Option, Some, None, is_some, Result, Ok, Err, refl, sym, ap, subst, ◌∙◌}
+use Rattle.std.specs.List.{AllByRecursion, flat_map, list_all}
+use Rattle.std.specs.Str.{str_eq_ignore_ascii_case}
+use Rattle.std.proofs.lemmas.Grind.{flat_map-append}
+use Rattle.rad_outside.specs.declared.files.Place.{Place}
+use Rattle.rad_conf.specs.declared.tree.Word.{Word}
+use Rattle.rad_conf.specs.declared.tree.Node.{Node}
+use Rattle.rad_conf.specs.declared.tree.Item.{Item, out-Item}
+use Rattle.rad_conf.specs.Tree.{Layer}
+use Rattle.rad_conf.specs.declared.tree.Item.TheOpen as level
+use Rattle.rad_words.specs.declared.sections.Section.{Section}
+use Rattle.rad_words.specs.declared.sections.Section.TheVariants as which
+use Rattle.rad_value.specs.declared.edits.Edit.{Edit}
+use Rattle.rad_text.specs.Read.{◌>>=◌}
+use Rattle.unlang_tree.specs.declared.fault.TreeFault.{TreeFault}
+use Rattle.unlang_tree.specs.declared.fault.TreeFault.TheVariants as fault
+use Rattle.unlang_tree.specs.declared.statement.Call.{Call}
+use Rattle.unlang_tree.specs.declared.statement.Statement.{Statement}
+use Rattle.unlang_tree.specs.declared.statement.StatementKind.TheVariants as kinds
+use Rattle.unlang_tree.specs.declared.policies.Subsection.{Subsection}
+use Rattle.unlang_tree.specs.declared.policies.SectionTree.{SectionTree}
+use Rattle.unlang_tree.specs.declared.policies.ServerTree.{ServerTree}
+use Rattle.unlang_tree.specs.declared.subsections.Parts.{Parts}
+use Rattle.unlang_tree.specs.declared.servers.Known.{Known}
+use Rattle.unlang_tree.specs.Instances.{Instance, number_of}
+use Rattle.unlang_tree.specs.Sites.{Site}
+use Rattle.unlang_tree.specs.Readings.{one_more, after_each, most_statements}
+use Rattle.unlang_tree.specs.Words.{is_one_of, later_words, later_blocks}
+use Rattle.unlang_tree.specs.Calls.{is_policy, can_be_called, call_of, is_optional, called_name, is_there, call_at}
+use Rattle.unlang_tree.specs.Updates.{update_at}
+use Rattle.unlang_tree.specs.Statements.{counted_call, word_at, is_pair, with_actions, call_block_at, update_statement, block_at, statement_at, and_also, with_statement, statements_of}
+use Rattle.unlang_tree.specs.Sections.{subsection_block, with_subsection, own_name, with_call, with_own, with_part, parts_of, section_block, with_authorize, with_authenticate, with_section, with_item, server_of}
+use Rattle.unlang_tree.specs.Policies.{server_block, with_server, servers_of}
+use Rattle.unlang_tree.specs.EachCall.{calls_in, calls_of, EachCall, EachCallWithin, EachCallIn, EachCallOfSections, EachCallOf, IsMet}
+use Rattle.unlang_tree.proofs.Binds.{ok_same, err_ok, bind_ok, past, passed, kept, all_both, all_wider}
+
+module _ (holds : Section → Call → Type 0) (section : Section) where
+  -- one statement more
+  pub each_added : (statements : List Statement) (one : Statement) → EachCall holds section statements → AllByRecursion (holds section) (calls_in one)
+      → EachCall holds section (statements ++ one ∷ [])
+  each_added statements one all more =
+      subst (AllByRecursion (holds section)) (sym (flat_map-append calls_in statements (one ∷ [])))
+      (all_both (holds section) (calls_of statements) (calls_in one ++ []) all (all_both (holds section) (calls_in one) [] more tt))
+
+-- what holds of calls wherever another does
+pub each_wider : (holds wider : Section → Call → Type 0) → ((section : Section) (call : Call) → holds section call → wider section call)
+    → (section : Section) (statements : List Statement) → EachCall holds section statements → EachCall wider section statements
+each_wider holds wider h section statements all = all_wider (holds section) (wider section) (h section) (calls_of statements) all
+
+within_wider : (holds wider : Section → Call → Type 0) → ((section : Section) (call : Call) → holds section call → wider section call)
+    → (section : Section) (subs : List Subsection) → EachCallWithin holds section subs → EachCallWithin wider section subs
+within_wider holds wider h section subs all =
+    all_wider (λ (sub : Subsection). EachCall holds section sub.statements) (λ (sub : Subsection). EachCall wider section sub.statements)
+    (λ sub. each_wider holds wider h section sub.statements) subs all
+
+section_wider : (holds wider : Section → Call → Type 0) → ((section : Section) (call : Call) → holds section call → wider section call)
+    → (tree : SectionTree) → EachCallIn holds tree → EachCallIn wider tree
+section_wider holds wider h tree all =
+    (each_wider holds wider h tree.section tree.statements all.0, within_wider holds wider h tree.section tree.subsections all.1)
+
+pub servers_wider : (holds wider : Section → Call → Type 0) → ((section : Section) (call : Call) → holds section call → wider section call)
+    → (servers : List ServerTree) → EachCallOf holds servers → EachCallOf wider servers
+servers_wider holds wider h servers all =
+    all_wider (λ (server : ServerTree). EachCallOfSections holds server.sections) (λ (server : ServerTree). EachCallOfSections wider server.sections)
+    (λ server. all_wider (EachCallIn holds) (EachCallIn wider) (section_wider holds wider h) server.sections) servers all
+
+-- the call of the instance of a number, where one was found
+abbrev numbered : List Instance → Section → Place → List ℕ → Option ℕ → Result Call TreeFault
+numbered instances section place name found = elim found [
+  | None ↦ Err (fault.UnknownModule place name)
+  | Some number ↦
+      if can_be_called instances section number then Ok (record { instance = number; overrides = [] })
+      else Err (fault.NoSuchMethod place)
+]
+
+numbered_met : (instances : List Instance) (section : Section) (place : Place) (name : List ℕ) (found : Option ℕ) (call : Call)
+    → numbered instances section place name found ≡ Ok call → IsMet instances section call
+numbered_met instances section place name None call e = err_ok call (fault.UnknownModule place name) e
+numbered_met instances section place name (Some number) call e =
+    let plain : Call = record { instance = number; overrides = [] } in
+    let both = passed (can_be_called instances section number) plain (fault.NoSuchMethod place) call e in
+    ap (λ (c : Call). can_be_called instances section c.instance) (sym both.1) ∙ both.0
+
+module _ (site : Site) where
+  call_met : (section : Section) (place : Place) (name : List ℕ) (call : Call) → call_of site.root site.instances section place name ≡ Ok call → IsMet site.instances section call
+  unfolding call_of
+  call_met section place name call e =
+      numbered_met site.instances section place name (number_of site.instances name) call
+      (past (is_policy site.root section name) (fault.NotBuilt place) (numbered site.instances section place name (number_of site.instances name)) call e)
+
+  -- the calls of a call that may not be written
+  abbrev IsMetIf : Section → Option Call → Type 0
+  IsMetIf section None = Unit {0}
+  IsMetIf section (Some call) = IsMet site.instances section call
+
+  some_met : (section : Section) (r : Result Call TreeFault) (call : Option Call) → ((one : Call) → r ≡ Ok one → IsMet site.instances section one)
+      → (r >>= λ one. Ok (Some one)) ≡ Ok call → IsMetIf section call
+  some_met section r call met e =
+      let one = bind_ok r (λ c. Ok (Some c)) call e in
+      subst (IsMetIf section) (ok_same (Some one.0) call one.1.1) (met one.0 one.1.0)
+
+  split_met : (section : Section) (b : Bool) (r : Result (Option Call) TreeFault) (call : Option Call) → (r ≡ Ok call → IsMetIf section call)
+      → cond b (Ok None) r ≡ Ok call → IsMetIf section call
+  split_met section true r call met e = subst (IsMetIf section) (ok_same None call e) tt
+  split_met section false r call met e = met e
+
+  word_call_met : (section : Section) (place : Place) (word : List ℕ) (call : Option Call) → call_at site.root site.instances section place word ≡ Ok call → IsMetIf section call
+  unfolding call_at
+  word_call_met section place word call e =
+      split_met section (is_optional word && not (is_there site.root site.instances section (called_name word)))
+      (call_of site.root site.instances section place (called_name word) >>= λ one. Ok (Some one)) call
+      (some_met section (call_of site.root site.instances section place (called_name word)) call (call_met section place (called_name word))) e
+
+  -- the calls of a statement that may not be written
+  abbrev AreMetIf : Section → Option Statement → Type 0
+  AreMetIf section None = Unit {0}
+  AreMetIf section (Some one) = AllByRecursion (IsMet site.instances section) (calls_in one)
+
+  counted_met : (section : Section) (room : ℕ) (place : Place) (call : Option Call) (statement : Option Statement) → IsMetIf section call
+      → counted_call room place call ≡ Ok statement → AreMetIf section statement
+  unfolding counted_call
+  counted_met section room place None statement met e = subst (AreMetIf section) (ok_same None statement e) tt
+  counted_met section room place (Some call) statement met e =
+      let one : Statement = record { place = place; kind = kinds.Call call } in
+      let last = bind_ok (one_more room place) (λ counted. Ok (Some one)) statement e in
+      subst (AreMetIf section) (ok_same (Some one) statement last.1.1) (met, tt)
+
+  word_met : (section : Section) (room : ℕ) (place : Place) (word : List ℕ) (statement : Option Statement)
+      → word_at site section room place word ≡ Ok statement → AreMetIf section statement
+  unfolding word_at
+  word_met section room place word statement e =
+      let rest = past (is_one_of later_words word) (fault.NotBuilt place) (call_at site.root site.instances section place word >>= counted_call room place) statement e in
+      let one = bind_ok (call_at site.root site.instances section place word) (counted_call room place) statement rest in
+      counted_met section room place one.0 statement (word_call_met section place word one.0 one.1.0) one.1.1
+
+  actions_met : (section : Section) (place : Place) (call : Option Call) (statement : Option Statement) → with_actions place call ≡ Ok statement → AreMetIf section statement
+  unfolding with_actions
+  actions_met section place None statement e = subst (AreMetIf section) (ok_same None statement e) tt
+  actions_met section place (Some call) statement e = err_ok statement (fault.NotBuilt place) e
+
+  call_block_met : (section : Section) (place : Place) (kind : List ℕ) (name : Option Word) (body : List Node) (statement : Option Statement)
+      → call_block_at site section place kind name body ≡ Ok statement → AreMetIf section statement
+  unfolding call_block_at
+  call_block_met section place kind name body statement e =
+      let rest = past (is_some name || not (list_all is_pair body)) (fault.UnknownKeyword place) (call_at site.root site.instances section place kind >>= λ call. with_actions place call) statement e in
+      let one = bind_ok (call_at site.root site.instances section place kind) (λ call. with_actions place call) statement rest in
+      actions_met section place one.0 statement one.1.1
+
+  update_met : (section : Section) (room : ℕ) (place : Place) (name : Option Word) (body : List Node) (statement : Option Statement)
+      → update_statement site room place name body ≡ Ok statement → AreMetIf section statement
+  update_met section room place name body statement e =
+      let one = bind_ok (update_at site.dict room place name body) (λ edit. Ok (Some (record { place = place; kind = kinds.Update edit }))) statement e in
+      subst (AreMetIf section) (ok_same (Some (record { place = place; kind = kinds.Update one.0 })) statement one.1.1) tt
+
+  either_met : (section : Section) (b : Bool) (left right : Result (Option Statement) TreeFault) (statement : Option Statement)
+      → (left ≡ Ok statement → AreMetIf section statement) → (right ≡ Ok statement → AreMetIf section statement) → cond b left right ≡ Ok statement → AreMetIf section statement
+  either_met section true left right statement one other e = one e
+  either_met section false left right statement one other e = other e
+
+  block_met : (section : Section) (room : ℕ) (place : Place) (kind : List ℕ) (name : Option Word) (body : List Node) (statement : Option Statement)
+      → block_at site section room place kind name body ≡ Ok statement → AreMetIf section statement
+  unfolding block_at
+  block_met section room place kind name body statement e =
+      either_met section (str_eq_ignore_ascii_case kind (codes "update")) (update_statement site room place name body)
+      (if is_one_of later_blocks kind then Err (fault.NotBuilt place) else call_block_at site section place kind name body) statement
+      (update_met section room place name body statement)
+      (λ rest. call_block_met section place kind name body statement (past (is_one_of later_blocks kind) (fault.NotBuilt place) (call_block_at site section place kind name body) statement rest))
+      e
+
+  -- a node by its item, as `out-Item` opens it
+  abbrev item_at : Section → ℕ → Node → Layer → Result (Option Statement) TreeFault
+  item_at section room node item = elim item [
+    | level.Pair left operator right ↦ Err (fault.BadAction node.place)
+    | level.Name word ↦ word_at site section room node.place word.text
+    | level.Block kind name body ↦ block_at site section room node.place kind.text name body
+  ]
+
+  item_met : (section : Section) (room : ℕ) (node : Node) (item : Layer) (statement : Option Statement)
+      → item_at section room node item ≡ Ok statement → AreMetIf section statement
+  item_met section room node (level.Pair left operator right) statement e = err_ok statement (fault.BadAction node.place) e
+  item_met section room node (level.Name word) statement e = word_met section room node.place word.text statement e
+  item_met section room node (level.Block kind name body) statement e = block_met section room node.place kind.text name body statement e
+
+  statement_met : (section : Section) (room : ℕ) (node : Node) (statement : Option Statement) → statement_at site section room node ≡ Ok statement → AreMetIf section statement
+  unfolding statement_at
+  statement_met section room node statement e = item_met section room node (out-Item node.item) statement e
+
+  abbrev AreMet : Section → List Statement → Type 0
+  AreMet section statements = EachCall (IsMet site.instances) section statements
+
+  also_met : (section : Section) (statements : List Statement) (one : Option Statement) → AreMet section statements → AreMetIf section one → AreMet section (and_also statements one)
+  also_met section statements None all more = all
+  also_met section statements (Some one) all more = each_added (IsMet site.instances) section statements one all more
+
+  step_met : (section : Section) (room : ℕ) (known next : List Statement) (node : Node) → AreMet section known → with_statement site section room known node ≡ Ok next → AreMet section next
+  unfolding with_statement
+  step_met section room known next node all e =
+      let one = bind_ok (statement_at site section (room - length known) node) (λ statement. Ok (and_also known statement)) next e in
+      subst (AreMet section) (ok_same (and_also known one.0) next one.1.1) (also_met section known one.0 all (statement_met section (room - length known) node one.0 one.1.0))
+
+  statements_met : (section : Section) (room : ℕ) (nodes : List Node) (statements : List Statement) → statements_of site section room nodes ≡ Ok statements → AreMet section statements
+  statements_met section room nodes statements e =
+      kept (with_statement site section room) (AreMet section) (step_met section room) [] statements nodes tt e
+
+  abbrev PartsMet : Parts → Type 0
+  PartsMet known = EachCallWithin (IsMet site.instances) which.Authenticate known.subsections
+
+  abbrev within : List Subsection → Subsection → Type 0
+  within subs sub = EachCallWithin (IsMet site.instances) which.Authenticate (subs ++ sub ∷ [])
+
+  sub_added : (subs : List Subsection) (sub : Subsection) → EachCallWithin (IsMet site.instances) which.Authenticate subs → AreMet which.Authenticate sub.statements → within subs sub
+  sub_added subs sub all more = all_both (λ (one : Subsection). EachCall (IsMet site.instances) which.Authenticate one.statements) subs (sub ∷ []) all (more, tt)
+
+  subsection_met : (known next : Parts) (name : List ℕ) (body : List Node) → PartsMet known → with_subsection site known name body ≡ Ok next → PartsMet next
+  unfolding with_subsection
+  subsection_met known next name body all e =
+      let one = bind_ok (statements_of site which.Authenticate known.room body) (λ statements. Ok (record { subsections = known.subsections ++ record { name = name; statements = statements } ∷ []; room = known.room - length statements })) next e in
+      subst PartsMet (ok_same (record { subsections = known.subsections ++ record { name = name; statements = one.0 } ∷ []; room = known.room - length one.0 }) next one.1.1)
+      (sub_added known.subsections (record { name = name; statements = one.0 }) all (statements_met which.Authenticate known.room body one.0 one.1.0))
+
+  own_met : (name : Option (List ℕ)) (statement : Statement) (subs : List Subsection) → EachCallWithin (IsMet site.instances) which.Authenticate subs
+      → AllByRecursion (IsMet site.instances which.Authenticate) (calls_in statement) → EachCallWithin (IsMet site.instances) which.Authenticate (with_call name statement subs)
+  own_met None statement subs all more = all
+  own_met (Some name) statement subs all more =
+      sub_added subs (record { name = name; statements = statement ∷ [] }) all (each_added (IsMet site.instances) which.Authenticate [] statement tt more)
+
+  alone_met : (node : Node) (known : Parts) (statement : Option Statement) → PartsMet known → AreMetIf which.Authenticate statement → PartsMet (with_own node known statement)
+  unfolding with_own
+  alone_met node known None all more = all
+  alone_met node known (Some statement) all more = own_met (own_name node) statement known.subsections all more
+
+  abbrev part_of : Parts → Node → Option (List ℕ × List Node) → Result Parts TreeFault
+  part_of known node block = elim block [
+    | Some block ↦ with_subsection site known block.0 block.1
+    | None ↦ statement_at site which.Authenticate known.room node >>= λ statement. Ok (with_own node known statement)
+  ]
+
+  block_part_met : (known next : Parts) (node : Node) (block : Option (List ℕ × List Node)) → PartsMet known → part_of known node block ≡ Ok next → PartsMet next
+  block_part_met known next node (Some block) all e = subsection_met known next block.0 block.1 all e
+  block_part_met known next node None all e =
+      let one = bind_ok (statement_at site which.Authenticate known.room node) (λ statement. Ok (with_own node known statement)) next e in
+      subst PartsMet (ok_same (with_own node known one.0) next one.1.1) (alone_met node known one.0 all (statement_met which.Authenticate known.room node one.0 one.1.0))
+
+  part_met : (known next : Parts) (node : Node) → PartsMet known → with_part site known node ≡ Ok next → PartsMet next
+  unfolding with_part
+  part_met known next node all e = block_part_met known next node (subsection_block node) all e
+
+  abbrev SectionsMet : Known → Type 0
+  SectionsMet known = EachCallOfSections (IsMet site.instances) known.sections
+
+  section_added : (sections : List SectionTree) (tree : SectionTree) → EachCallOfSections (IsMet site.instances) sections → EachCallIn (IsMet site.instances) tree
+      → EachCallOfSections (IsMet site.instances) (sections ++ tree ∷ [])
+  section_added sections tree all more = all_both (EachCallIn (IsMet site.instances)) sections (tree ∷ []) all (more, tt)
+
+  abbrev authorize_of : List Statement → SectionTree
+  authorize_of statements = record { section = which.Authorize; statements = statements; subsections = [] }
+
+  abbrev authenticate_of : List Subsection → SectionTree
+  authenticate_of subs = record { section = which.Authenticate; statements = []; subsections = subs }
+
+  authorize_met : (known next : Known) (body : List Node) → SectionsMet known → with_authorize site known body ≡ Ok next → SectionsMet next
+  unfolding with_authorize
+  authorize_met known next body all e =
+      let one = bind_ok (statements_of site which.Authorize known.room body) (λ statements. Ok (record { sections = known.sections ++ authorize_of statements ∷ []; room = known.room - length statements })) next e in
+      subst SectionsMet (ok_same (record { sections = known.sections ++ authorize_of one.0 ∷ []; room = known.room - length one.0 }) next one.1.1)
+      (section_added known.sections (authorize_of one.0) all (statements_met which.Authorize known.room body one.0 one.1.0, tt))
+
+  authenticate_met : (known next : Known) (body : List Node) → SectionsMet known → with_authenticate site known body ≡ Ok next → SectionsMet next
+  unfolding with_authenticate
+  authenticate_met known next body all e =
+      let one = bind_ok (parts_of site known.room body) (λ (parts : Parts). Ok (record { sections = known.sections ++ authenticate_of parts.subsections ∷ []; room = parts.room })) next e in
+      let subs = kept (with_part site) PartsMet part_met (record { subsections = []; room = known.room }) one.0 body tt one.1.0 in
+      subst SectionsMet (ok_same (record { sections = known.sections ++ authenticate_of one.0.subsections ∷ []; room = one.0.room }) next one.1.1)
+      (section_added known.sections (authenticate_of one.0.subsections) all (tt, subs))
+
+  section_met : (known next : Known) (place : Place) (section : Section) (body : List Node) → SectionsMet known → with_section site known place section body ≡ Ok next → SectionsMet next
+  unfolding with_section
+  section_met known next place which.Authorize body all e = authorize_met known next body all e
+  section_met known next place which.Authenticate body all e = authenticate_met known next body all e
+  section_met known next place which.Session body all e = err_ok next (fault.NotBuilt place) e
+  section_met known next place which.Preacct body all e = err_ok next (fault.NotBuilt place) e
+  section_met known next place which.Accounting body all e = err_ok next (fault.NotBuilt place) e
+  section_met known next place which.PostAuth body all e = err_ok next (fault.NotBuilt place) e
+
+  abbrev item_of : Known → Node → Option (Section × List Node) → Result Known TreeFault
+  item_of known node block = elim block [
+    | None ↦ Ok known
+    | Some block ↦ with_section site known node.place block.0 block.1
+  ]
+
+  block_item_met : (known next : Known) (node : Node) (block : Option (Section × List Node)) → SectionsMet known → item_of known node block ≡ Ok next → SectionsMet next
+  block_item_met known next node None all e = subst SectionsMet (ok_same known next e) all
+  block_item_met known next node (Some block) all e = section_met known next node.place block.0 block.1 all e
+
+  server_item_met : (known next : Known) (node : Node) → SectionsMet known → with_item site known node ≡ Ok next → SectionsMet next
+  unfolding with_item
+  server_item_met known next node all e = block_item_met known next node (section_block node) all e
+
+  server_met : (name : List ℕ) (items : List Node) (server : ServerTree) → server_of site name items ≡ Ok server → EachCallOfSections (IsMet site.instances) server.sections
+  unfolding server_of
+  server_met name items server e =
+      let start : Known = record { sections = []; room = most_statements } in
+      let one = bind_ok (after_each (with_item site) start items) (λ (known : Known). Ok (record { name = name; sections = known.sections })) server e in
+      subst (λ (s : ServerTree). EachCallOfSections (IsMet site.instances) s.sections) (ok_same (record { name = name; sections = one.0.sections }) server one.1.1)
+      (kept (with_item site) SectionsMet server_item_met start one.0 items tt one.1.0)
+
+  abbrev node_of : List ServerTree → Option (List ℕ × List Node) → Result (List ServerTree) TreeFault
+  node_of servers block = elim block [
+    | None ↦ Ok servers
+    | Some block ↦ server_of site block.0 block.1 >>= λ server. Ok (servers ++ server ∷ [])
+  ]
+
+  block_node_met : (servers next : List ServerTree) (block : Option (List ℕ × List Node)) → EachCallOf (IsMet site.instances) servers → node_of servers block ≡ Ok next → EachCallOf (IsMet site.instances) next
+  block_node_met servers next None all e = subst (EachCallOf (IsMet site.instances)) (ok_same servers next e) all
+  block_node_met servers next (Some block) all e =
+      let one = bind_ok (server_of site block.0 block.1) (λ server. Ok (servers ++ server ∷ [])) next e in
+      subst (EachCallOf (IsMet site.instances)) (ok_same (servers ++ one.0 ∷ []) next one.1.1)
+      (all_both (λ (server : ServerTree). EachCallOfSections (IsMet site.instances) server.sections) servers (one.0 ∷ []) all (server_met block.0 block.1 one.0 one.1.0, tt))
+
+  node_met : (servers next : List ServerTree) (node : Node) → EachCallOf (IsMet site.instances) servers → with_server site servers node ≡ Ok next → EachCallOf (IsMet site.instances) next
+  unfolding with_server
+  node_met servers next node all e = block_node_met servers next (server_block node) all e
+
+  -- the policies of a configuration
+  pub servers_met : (servers : List ServerTree) → servers_of site ≡ Ok servers → EachCallOf (IsMet site.instances) servers
+  servers_met servers e = kept (with_server site) (EachCallOf (IsMet site.instances)) node_met [] servers site.root tt e

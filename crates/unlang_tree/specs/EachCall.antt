@@ -1,0 +1,48 @@
+-- What holds of each call among the statements of policies, each in the section in which it stands. This project's own.
+use Rattle.std.specs.Prelude.{◌≡◌, true, List, [], ◌∷◌}
+use Rattle.std.specs.List.{AllByRecursion, flat_map}
+use Rattle.rad_words.specs.declared.sections.Section.{Section}
+use Rattle.unlang_tree.specs.declared.statement.Call.{Call}
+use Rattle.unlang_tree.specs.declared.statement.Statement.{Statement}
+use Rattle.unlang_tree.specs.declared.statement.StatementKind.{StatementKind}
+use Rattle.unlang_tree.specs.declared.statement.StatementKind.TheVariants as kinds
+use Rattle.unlang_tree.specs.declared.policies.Subsection.{Subsection}
+use Rattle.unlang_tree.specs.declared.policies.SectionTree.{SectionTree}
+use Rattle.unlang_tree.specs.declared.policies.ServerTree.{ServerTree}
+use Rattle.unlang_tree.specs.Instances.{Instance}
+use Rattle.unlang_tree.specs.Calls.{can_be_called}
+
+-- The calls of a statement, in order.
+abbrev pub calls_in_kind : StatementKind → List Call
+calls_in_kind (kinds.Call call) = call ∷ []
+calls_in_kind (kinds.Update edit) = []
+
+abbrev pub calls_in : Statement → List Call
+calls_in statement = calls_in_kind statement.kind
+
+-- The calls of statements, in order.
+abbrev pub calls_of : List Statement → List Call
+calls_of statements = flat_map calls_in statements
+
+-- It holds of each call of statements that stand in a section.
+abbrev pub EachCall : (Section → Call → Type 0) → Section → List Statement → Type 0
+EachCall holds section statements = AllByRecursion (holds section) (calls_of statements)
+
+-- It holds of each call of a section's subsections.
+abbrev pub EachCallWithin : (Section → Call → Type 0) → Section → List Subsection → Type 0
+EachCallWithin holds section subsections = AllByRecursion (λ (sub : Subsection). EachCall holds section sub.statements) subsections
+
+-- It holds of each call of sections.
+abbrev pub EachCallIn : (Section → Call → Type 0) → SectionTree → Type 0
+EachCallIn holds tree = EachCall holds tree.section tree.statements × EachCallWithin holds tree.section tree.subsections
+
+abbrev pub EachCallOfSections : (Section → Call → Type 0) → List SectionTree → Type 0
+EachCallOfSections holds sections = AllByRecursion (EachCallIn holds) sections
+
+-- It holds of each call of servers.
+abbrev pub EachCallOf : (Section → Call → Type 0) → List ServerTree → Type 0
+EachCallOf holds servers = AllByRecursion (λ (server : ServerTree). EachCallOfSections holds server.sections) servers
+
+-- The instance that a call names is there and has a method for the section.
+abbrev pub IsMet : List Instance → Section → Call → Type 0
+IsMet instances section call = can_be_called instances section call.instance ≡ true
