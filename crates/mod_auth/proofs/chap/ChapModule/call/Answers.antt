@@ -1,0 +1,11 @@
+use Rattle.rad_value.specs.declared.scope.Scope.{Scope}
+use Rattle.mod_lists.proofs.Reached.{lists_answered, lists_given_up}
+use Rattle.mod_auth.specs.Chap.{chap_done}
+use Rattle.mod_auth.proofs.chap.ChapModule.call.Goals as goal
+
+pub returns-clause-ok : goal.returns-clause-ok
+returns-clause-ok g c =
+    lists_answered (λ (scope : Scope). chap_done c.args.self.now.name c.args.method scope.authenticator scope.lists) c.args.scope.now c.run_method.new.lists (g.W.World.state c.args._world.now) c.run_method.result (rw c.as_slice.ensures at c.run_method.ensures)
+
+pub returns-clause-memory : goal.returns-clause-memory
+returns-clause-memory g c = lists_given_up (λ (scope : Scope). chap_done c.args.self.now.name c.args.method scope.authenticator scope.lists) c.args.scope.now (g.W.World.state c.args._world.now) c.run_method.result

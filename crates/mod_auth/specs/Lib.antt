@@ -1,0 +1,7 @@
+pub mod Attributes
+pub mod Known
+pub mod Password
+pub mod Pap
+pub mod Chap
+pub mod LetsIn
+pub mod Lawful

@@ -1,0 +1,4 @@
+pub mod Attributes
+pub mod Values
+pub mod Edits
+pub mod Done
