@@ -1,5 +1,11 @@
 pub mod BlockItems
 pub mod FileTurns
+pub mod CodeTurns
+pub mod Moments
+pub mod Running
+pub mod Served
+pub mod Scopes
+pub mod Trees
 pub mod Requests
 pub mod Kept
 pub mod Finding
@@ -7,3 +13,5 @@ pub mod UsersFiles
 pub mod Sites
 pub mod Dictionaries
 pub mod Building
+pub mod AuthTypes
+pub mod PasswordsChecked

@@ -69,6 +69,16 @@ route_of table server (Some name) =
     else (if str_eq_ignore_ascii_case name (codes "Reject") then Err verdict.Reject
     else ok_or (section_named table server Authenticate (Some name)) verdict.Reject)
 
+-- The verdict to which an Auth-Type leads, and reject where it leads through a subsection, which decides then.
+abbrev pub verdict_by : Result SectionId Verdict → Verdict
+verdict_by (Ok id) = verdict.Reject
+verdict_by (Err verdict) = verdict
+
+-- What is decided already, and reject where nothing is.
+abbrev pub settled : Option Verdict → Verdict
+settled None = verdict.Reject
+settled (Some verdict) = verdict
+
 -- The situation after a section, and its code.
 abbrev pub done_in : Policies → Definitions → SectionId → Situation → Situation × Code
 done_in policies dict id = section_of site_module policies.stack dict policies.table id

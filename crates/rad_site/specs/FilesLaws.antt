@@ -49,13 +49,13 @@ module _ {X : Type 0} (wide : X → X → Bool) where
 module _ {X : Type 0} (found_by holds : X → Bool) where
   found_here : (b : Bool) (first : X) (rest : List X) (x : X) → (find found_by rest ≡ Some x → holds x ≡ true → list_any holds rest ≡ true)
       → cond b (Some first) (find found_by rest) ≡ Some x → holds x ≡ true → (holds first || list_any holds rest) ≡ true
-  found_here true first rest x more is yes = let same : first ≡ x = cc in rw same (rw yes refl)
-  found_here false first rest x more is yes = or_right (holds first) (list_any holds rest) (more is yes)
+  found_here true first rest x more is held = let same : first ≡ x = cc in rw same (rw held refl)
+  found_here false first rest x more is held = or_right (holds first) (list_any holds rest) (more is held)
 
   -- what holds of the one that is found holds of one of all
   pub any_found : (xs : List X) (x : X) → find found_by xs ≡ Some x → holds x ≡ true → list_any holds xs ≡ true
-  any_found [] x is yes = absurd (cc)
-  any_found (first ∷ rest) x is yes = found_here (found_by first) first rest x (any_found rest x) is yes
+  any_found [] x is held = absurd (cc)
+  any_found (first ∷ rest) x is held = found_here (found_by first) first rest x (any_found rest x) is held
 
 -- the edits of an entry that is found are within the frame
 abbrev AreWithin : List Entry → List Edit → Type 0

@@ -82,14 +82,23 @@ plain_module place kind name items =
     else (if is_later kind then refused place
     else Err (fault.UnknownModule place kind))))
 
+-- The module `files` of these users. A setting `key` isn't built yet.
+unfoldable pub files_with : Option Node → List Entry → Result SiteModule BuildFault
+files_with None users = Ok (site.Files (record { users = users }))
+files_with (Some node) users = refused node.place
+
 -- The module `files`.
 abbrev pub files_module : Sources → Definitions → Place → List Node → Result SiteModule BuildFault
-files_module sources dict place items = users_by sources dict place (pair_named (codes "filename") items) >>= λ users. Ok (site.Files (record { users = users }))
+files_module sources dict place items = users_by sources dict place (pair_named (codes "filename") items) >>= files_with (pair_named (codes "key") items)
+
+-- A block of this kind is of `files`.
+abbrev pub is_files : List ℕ → Bool
+is_files kind = bytes_eq kind (codes "files")
 
 -- The module of a block.
 unfoldable pub module_of : Sources → Definitions → Place → List ℕ → List ℕ → List Node → Result SiteModule BuildFault
 module_of sources dict place kind name items =
-    if bytes_eq kind (codes "files") then files_module sources dict place items else plain_module place kind name items
+    if is_files kind then files_module sources dict place items else plain_module place kind name items
 
 -- The modules with one by this name, where there is room for it.
 unfoldable pub and_room : Place → Modules → List ℕ → SiteModule → Result Modules BuildFault

@@ -33,7 +33,7 @@ is_accept_value value = elim (text_of value) [ None ↦ false | Some text ↦ is
 
 -- An edit can bring Auth-Type to `Accept`.
 abbrev pub edit_accepts : Edit → Bool
-edit_accepts edit = same_list edit.list Control && same_attr edit.attr auth_type && is_accept_value edit.value
+edit_accepts edit = same_list edit.list Control && same_attr auth_type edit.attr && is_accept_value edit.value
 
 -- A module can bring Auth-Type to `Accept`: one whose users' items name Auth-Type, and one that sets it to its own name, where
 -- that is so.

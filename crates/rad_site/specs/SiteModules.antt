@@ -24,10 +24,10 @@ methods_of (site.Chap m) = pap_methods
 
 -- The attributes of each list that a module may edit.
 abbrev pub edits_of : SiteModule → ListName → AttrId → Bool
-edits_of (site.Always m) list attr = false
-edits_of (site.Files m) list attr = files_edits m.users list attr
-edits_of (site.Pap m) list attr = auth_type_alone list attr
-edits_of (site.Chap m) list attr = auth_type_alone list attr
+edits_of (site.Always m) = λ list attr. false
+edits_of (site.Files m) = files_edits m.users
+edits_of (site.Pap m) = auth_type_alone
+edits_of (site.Chap m) = auth_type_alone
 
 -- What a module does for a section.
 abbrev pub does : SiteModule → Definitions → Section → Situation → Situation × Code

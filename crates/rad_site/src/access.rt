@@ -1,9 +1,9 @@
 //! What becomes of an access request, from section to section.
 
 ghost use Rattle.std.specs.Prelude.{◌≡◌, IfOk, OnOk, IfSome};
-ghost use Rattle.std.specs.Option.{option_copied};
+ghost use Rattle.std.specs.Option.{option_copied, is_none};
 ghost use Rattle.mod_base.specs.Reaching.{Reaches};
-ghost use Rattle.rad_site.specs.Access.{after_authorize, after_authenticate, has_server, section_named, route_of, done_in, authorized, authenticated, decided, HasStatements, IsReady};
+ghost use Rattle.rad_site.specs.Access.{after_authorize, after_authenticate, has_server, section_named, route_of, verdict_by, settled, done_in, authorized, authenticated, decided, HasStatements, IsReady};
 
 use crate::attributes::AUTH_TYPE;
 use crate::policies::Policies;
@@ -41,6 +41,33 @@ fn after_authenticate(code: Code) -> Verdict
         | Code::Notfound
         | Code::Noop
         | Code::Updated => Verdict::Reject,
+    }
+}
+
+/// Whether a request goes on behind authorize.
+fn goes_on(decided: Option<Verdict>) -> bool
+    ensures { result ≡ is_none decided }
+{
+    decided.is_none()
+}
+
+/// What is decided already.
+fn settled(decided: Option<Verdict>) -> Verdict
+    ensures { result ≡ settled decided }
+{
+    match decided {
+        Some(verdict) => verdict,
+        None => Verdict::Reject,
+    }
+}
+
+/// The verdict to which an Auth-Type leads, where it leads through no subsection.
+fn verdict_of(route: Result<SectionId, Verdict>) -> Verdict
+    ensures { result ≡ verdict_by route }
+{
+    match route {
+        Ok(_) => Verdict::Reject,
+        Err(verdict) => verdict,
     }
 }
 
@@ -136,12 +163,13 @@ impl Policies {
         ensures ok { IfOk result (λ verdict. Reaches scope.old (W.state world.old) (authenticated self.now dict.now server.now) scope.new (W.state world.new) (λ s. (s, verdict))) }
     {
         let name = scope.lists.first_text(ListName::Control, AUTH_TYPE);
-        match self.route_of(server, name) {
-            Err(verdict) => Ok(verdict),
+        let route = self.route_of(server, name);
+        match route {
             Ok(id) => {
                 let code = self.run(alloc, id, scope, world, dict)?;
                 Ok(after_authenticate(code))
             }
+            Err(_) => Ok(verdict_of(route)),
         }
     }
 
@@ -158,9 +186,9 @@ impl Policies {
         ensures ok { IfOk result (λ verdict. Reaches scope.old (W.state world.old) (decided self.now dict.now server.now) scope.new (W.state world.new) (λ s. (s, verdict))) }
     {
         let decided = self.authorize(alloc, server, scope, world, dict)?;
-        match decided {
-            Some(verdict) => Ok(verdict),
-            None => self.authenticate(alloc, server, scope, world, dict),
+        if goes_on(decided) {
+            return self.authenticate(alloc, server, scope, world, dict);
         }
+        Ok(settled(decided))
     }
 }

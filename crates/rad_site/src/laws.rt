@@ -15,6 +15,6 @@ ghost use Rattle.rad_site.specs.Policies.{Policies as AnyPolicies};
 /// authorize, its first User-Password is a text that isn't empty and the first of the four passwords in the control list knows
 /// it.
 pub fn passwords_let_requests_in()
-    ensures accepted { (policies : AnyPolicies) (dict : Definitions) (server : List ℕ) (begun : Situation) → ChecksPasswords policies server
+    ensures { (policies : AnyPolicies) (dict : Definitions) (server : List ℕ) (begun : Situation) → ChecksPasswords policies server
         → begun.scope.lists.control ≡ [] → (decided policies dict server begun).1 ≡ Verdict.Accept → KnowsThePassword (authorized policies dict server begun).0.scope.lists }
 {}

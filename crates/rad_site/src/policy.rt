@@ -111,9 +111,9 @@ impl Generation {
         let authenticator = authenticator_of(&request);
         let mut scope = Scope::new(lists, arrival.from, moment, luck, authenticator);
         let mut world = BareWorld::new(alloc);
-        let verdict =
-            self.policies
-                .decide(alloc, arrival.server, &mut scope, &mut world, &self.dict)?;
+        let verdict = self
+            .policies
+            .decide(alloc, arrival.server, &mut scope, &mut world, &self.dict)?;
         reply_to(alloc, verdict, &scope.lists, &request, secret)
     }
 }

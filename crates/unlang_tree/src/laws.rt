@@ -9,9 +9,8 @@ ghost use Rattle.unlang_tree.specs.declared.statement.Statement.{Statement as An
 ghost use Rattle.unlang_tree.specs.Sites.{Site};
 ghost use Rattle.unlang_tree.specs.Statements.{statements_of};
 ghost use Rattle.unlang_tree.specs.Policies.{servers_of};
-ghost use Rattle.unlang_tree.specs.declared.statement.Call.{Call as AnyCall};
 ghost use Rattle.unlang_tree.specs.declared.policies.ServerTree.{ServerTree};
-ghost use Rattle.unlang_tree.specs.EachCall.{EachCall, EachCallOf, IsMet};
+ghost use Rattle.unlang_tree.specs.EachCall.{EachCallOf, IsMet};
 ghost use Rattle.unlang_tree.specs.Written.{IsBlock, Spell, IsUnknown};
 
 use crate::fault::TreeFault;
@@ -46,13 +45,4 @@ pub fn a_written_site_is_read()
 /// the call stands.
 pub fn each_call_can_be_made()
     ensures { (site : Site) (servers : List ServerTree) → servers_of site ≡ Ok servers → EachCallOf (IsMet site.instances) servers }
-{}
-
-/// What holds of each call of policies still holds of each where something wider is asked: among the statements of one
-/// section, and among those of servers.
-pub fn what_holds_of_each_call_can_be_widened()
-    ensures statements { (holds wider : AnySection → AnyCall → Type 0) → ((section : AnySection) (call : AnyCall) → holds section call → wider section call)
-        → (section : AnySection) (statements : List AnyStatement) → EachCall holds section statements → EachCall wider section statements }
-    ensures servers { (holds wider : AnySection → AnyCall → Type 0) → ((section : AnySection) (call : AnyCall) → holds section call → wider section call)
-        → (servers : List ServerTree) → EachCallOf holds servers → EachCallOf wider servers }
 {}

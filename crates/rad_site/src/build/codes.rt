@@ -41,10 +41,13 @@ pub(crate) fn name_of(code: Code) -> &'static [u8]
 fn first_named(word: &[u8], codes: &[Code]) -> Option<Code>
     ensures { result ≡ find (λ one. str_eq_ignore_ascii_case word.now (name_of one)) codes.now }
 {
-    codes
+    match codes
         .iter()
         .find(|code| word.eq_ignore_ascii_case(name_of(**code)))
-        .copied()
+    {
+        Some(code) => Some(*code),
+        None => None,
+    }
 }
 
 /// The return code of a word.

@@ -11,7 +11,7 @@ use rad_outside::NoMemory;
 use rad_words::Code;
 use std::alloc::Global;
 use std::marker::Model;
-use unlang_tree::{AddFault, Instances};
+use unlang_tree::Instances;
 
 /// How many instances may stand whose names are no return codes'.
 const MOST_OTHERS: u32 = 1015;
@@ -82,10 +82,9 @@ impl Modules {
             mut stack,
             others,
         } = self;
-        match instances.add(name, module.methods()) {
-            Ok(_) => {}
-            Err(AddFault::NoMemory) => return Err(NoMemory),
-            Err(AddFault::Taken | AddFault::Full(_)) => unreachable!(),
+        // The name is free and there is room, so only memory can be wanting.
+        if instances.add(name, module.methods()).is_err() {
+            return Err(NoMemory);
         }
         stack.push(module)?;
         let others = if is_code_name(name) {
@@ -115,10 +114,17 @@ impl Modules {
     pub(crate) fn with_codes(self) -> Result<Modules, NoMemory>
         ensures { IfOk result (λ modules. modules ≡ with_codes self all_codes) }
     {
-        let mut known = self;
-        for code in &CODES {
-            known = known.with_code(*code)?;
-        }
-        Ok(known)
+        with_all(self, &CODES)
     }
+}
+
+/// The modules with those of these return codes.
+fn with_all(known: Modules, codes: &[Code]) -> Result<Modules, NoMemory>
+    ensures { IfOk result (λ modules. modules ≡ with_codes known codes.now) }
+{
+    let mut known = known;
+    for code in codes {
+        known = known.with_code(*code)?;
+    }
+    Ok(known)
 }

@@ -61,12 +61,7 @@ fn kind_at(
 }
 
 /// The address that a setting is set to.
-fn addr_at(
-    alloc: Global,
-    place: &Place,
-    operator: &[u8],
-    value: &[u8],
-) -> Result<u32, BuildFault>
+fn addr_at(alloc: Global, place: &Place, operator: &[u8], value: &[u8]) -> Result<u32, BuildFault>
     ensures { Gives result (formed place.now (codes "ipaddr") (set_by operator.now (bound_address value.now))) }
 {
     if is_assignment(operator) {
@@ -78,12 +73,7 @@ fn addr_at(
 }
 
 /// The port that a setting is set to.
-fn port_at(
-    alloc: Global,
-    place: &Place,
-    operator: &[u8],
-    value: &[u8],
-) -> Result<u16, BuildFault>
+fn port_at(alloc: Global, place: &Place, operator: &[u8], value: &[u8]) -> Result<u16, BuildFault>
     ensures { Gives result (formed place.now (codes "port") (set_by operator.now (port_of value.now))) }
 {
     if is_assignment(operator) {
@@ -165,24 +155,14 @@ fn port_for(kind: ListenKind, port: Option<u16>) -> u16
     ensures { result ≡ port_for kind port }
 {
     match port {
-        Some(port) => {
-            if port == 0 {
-                usual_port(kind)
-            } else {
-                port
-            }
-        }
+        Some(port) => { if port == 0 { usual_port(kind) } else { port } }
         None => usual_port(kind),
     }
 }
 
 /// The listener of the items of a block at this place.
 #[tactic(auto, unfolding(crate::specs::ListenBlock::listener_of))]
-pub(crate) fn listener_of(
-    alloc: Global,
-    place: &Place,
-    items: &[Node],
-) -> Result<Bound, BuildFault>
+pub(crate) fn listener_of(alloc: Global, place: &Place, items: &[Node]) -> Result<Bound, BuildFault>
     ensures { Gives result (listener_of place.now items.now) }
 {
     let known = known_of(alloc, items)?;

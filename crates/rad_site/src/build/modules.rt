@@ -6,7 +6,7 @@ ghost use Rattle.rad_outside.specs.Telling.{Counts};
 ghost use Rattle.rad_site.specs.Nodes.{Gives, after_each};
 ghost use Rattle.rad_site.specs.Sources.{FindsIn};
 ghost use Rattle.rad_site.specs.Modules.{no_modules, is_taken};
-ghost use Rattle.rad_site.specs.ModulesBlock.{rcode_at, always_by, is_later, plain_module, files_module, module_of, and_room, with_instance, module_block, with_module, with_modules, modules_in};
+ghost use Rattle.rad_site.specs.ModulesBlock.{rcode_at, always_by, is_later, plain_module, files_with, files_module, is_files, module_of, and_room, with_instance, module_block, with_module, with_modules, modules_in};
 
 use crate::build::codes::code_named;
 use crate::build::instances::Modules;
@@ -18,6 +18,7 @@ use crate::files_module::FilesModule;
 use crate::site_module::SiteModule;
 use mod_auth::{Chap, Pap};
 use mod_base::Always;
+use mod_files::Users;
 use rad_conf::{Item, Node};
 use rad_dict::Dict;
 use rad_outside::{Files, Octets, Place};
@@ -84,6 +85,17 @@ fn plain_module(
     unknown_module(alloc, place, kind)
 }
 
+/// The module `files` of these users.
+#[tactic(auto, unfolding(crate::specs::ModulesBlock::files_with))]
+fn files_with(alloc: Global, key: Option<&Node>, users: Users) -> Result<SiteModule, BuildFault>
+    ensures { Gives result (files_with (option_copied key.entry) users) }
+{
+    match key {
+        None => Ok(SiteModule::Files(FilesModule { users })),
+        Some(node) => refuse(alloc, &node.place),
+    }
+}
+
 /// The module `files`.
 fn files_module<F: Files>(
     alloc: Global,
@@ -98,7 +110,14 @@ fn files_module<F: Files>(
     ensures faults { Counts (F.faults files.old) (F.faults files.new) (result ≡ Err BuildFault.ReadFault) }
 {
     let users = users_by(alloc, files, dir, dict, place, items)?;
-    Ok(SiteModule::Files(FilesModule { users }))
+    files_with(alloc, pair_named(b"key", items), users)
+}
+
+/// Whether a block of this kind is of `files`.
+fn is_files(kind: &[u8]) -> bool
+    ensures { result ≡ is_files kind.now }
+{
+    kind == b"files".as_slice()
 }
 
 /// The module of a block.
@@ -116,7 +135,7 @@ fn module_of<F: Files>(
         (F.told files.old) (F.told files.new) }
     ensures faults { Counts (F.faults files.old) (F.faults files.new) (result ≡ Err BuildFault.ReadFault) }
 {
-    if kind == b"files".as_slice() {
+    if is_files(kind) {
         return files_module(alloc, files, dir, dict, place, items);
     }
     plain_module(alloc, place, kind, name, items)
@@ -193,7 +212,17 @@ fn with_module<F: Files>(
     let Some((kind, name, items)) = module_block(node) else {
         return Ok(known);
     };
-    with_instance(alloc, files, dir, dict, known, &node.place, kind, name, items)
+    with_instance(
+        alloc,
+        files,
+        dir,
+        dict,
+        known,
+        &node.place,
+        kind,
+        name,
+        items,
+    )
 }
 
 /// The modules with those of the items of a block.
@@ -265,5 +294,6 @@ pub(crate) fn modules_in<F: Files>(
     ensures faults { Counts (F.faults files.old) (F.faults files.new) (result ≡ Err BuildFault.ReadFault) }
 {
     let known = configured_in(alloc, files, dir, dict, nodes)?;
-    Ok(known.with_codes()?)
+    let modules = known.with_codes()?;
+    Ok(modules)
 }

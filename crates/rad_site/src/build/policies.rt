@@ -41,7 +41,9 @@ pub(crate) fn policies_in(
     ensures { Gives result (policies_in dict.now modules conf.now) }
 {
     let Modules {
-        instances, stack, ..
+        instances,
+        stack,
+        ..
     } = modules;
     let sections = tree_in(alloc, dict, &instances, conf)?;
     let table = compile(alloc, &sections)?;

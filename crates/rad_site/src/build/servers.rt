@@ -28,7 +28,17 @@ pub(crate) struct Listener {
 #[derive(Debug, Drop)]
 pub(crate) struct Servers {
     names: Items<Octets>,
-    pub(crate) listener: Option<Listener>,
+    listener: Option<Listener>,
+}
+
+impl Servers {
+    /// Their one listener, if they have it.
+    pub(crate) fn into_listener(self) -> Option<Listener>
+        ensures { result ≡ self.listener }
+    {
+        let Servers { names: _, listener } = self;
+        listener
+    }
 }
 
 fn is_same(one: &Octets, name: &[u8]) -> bool
@@ -80,12 +90,7 @@ fn and_listener(
 
 /// The servers after one more item of the server of a name.
 #[tactic(auto, unfolding(crate::specs::ServerBlocks::with_item))]
-fn with_item(
-    alloc: Global,
-    name: &[u8],
-    known: Servers,
-    node: &Node,
-) -> Result<Servers, BuildFault>
+fn with_item(alloc: Global, name: &[u8], known: Servers, node: &Node) -> Result<Servers, BuildFault>
     ensures { Gives result (with_item name.now known node.now) }
 {
     if !is_block(b"listen", node) {

@@ -118,7 +118,7 @@ fn parts_in(
 {
     let servers = servers_in(alloc, conf.root().as_slice())?;
     let policies = policies_in(alloc, dict, modules, conf)?;
-    match servers.listener {
+    match servers.into_listener() {
         Some(listener) => Ok((policies, listener)),
         None => refuse_whole(alloc, b"listen"),
     }

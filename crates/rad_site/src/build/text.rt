@@ -60,12 +60,7 @@ fn conf_fault_text(alloc: Global, fault: &ConfFault) -> Result<Octets, NoMemory>
 }
 
 /// A reason and its word at their place.
-fn worded_text(
-    alloc: Global,
-    place: &Place,
-    reason: &[u8],
-    word: &[u8],
-) -> Result<Octets, NoMemory>
+fn worded_text(alloc: Global, place: &Place, reason: &[u8], word: &[u8]) -> Result<Octets, NoMemory>
     ensures { IfOk result (λ text. text ≡ placed_text place.now (reason.now ++ word.now)) }
 {
     let mut whole = Vec::from_slice(alloc, reason)?;
