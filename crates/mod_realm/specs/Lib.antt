@@ -1,0 +1,6 @@
+pub mod Attributes
+pub mod Parting
+pub mod Realms
+pub mod Named
+pub mod OfRealm
+pub mod Lawful
