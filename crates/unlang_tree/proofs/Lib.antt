@@ -2,4 +2,4 @@ mod InstanceLemmas
 mod Walks
 mod WrittenCalls
 mod Binds
-mod CallsMet
+pub mod CallsMet

@@ -37,24 +37,28 @@ pub(crate) fn name_of(code: Code) -> &'static [u8]
     }
 }
 
-/// The first of these codes whose name a word is, in any case of its ASCII letters.
-fn first_named(word: &[u8], codes: &[Code]) -> Option<Code>
-    ensures { result ≡ find (λ one. str_eq_ignore_ascii_case word.now (name_of one)) codes.now }
+/// Whether a word is the name of a return code, in any case of its ASCII letters.
+fn is_name(code: &Code, word: &[u8]) -> bool
+    ensures { result ≡ str_eq_ignore_ascii_case word.now (name_of code.now) }
 {
-    match codes
-        .iter()
-        .find(|code| word.eq_ignore_ascii_case(name_of(**code)))
-    {
-        Some(code) => Some(*code),
-        None => None,
-    }
+    word.eq_ignore_ascii_case(name_of(*code))
+}
+
+/// The first of these codes whose name a word is, in any case of its ASCII letters.
+fn first_named<'a>(word: &[u8], codes: &'a [Code]) -> Option<&'a Code>
+    ensures { option_copied result ≡ find (λ one. str_eq_ignore_ascii_case word.now (name_of one)) codes.now }
+{
+    codes.iter().find(|code| is_name(code, word))
 }
 
 /// The return code of a word.
 pub(crate) fn code_named(word: &[u8]) -> Option<Code>
     ensures { result ≡ code_named word.now }
 {
-    first_named(word, &CODES)
+    match first_named(word, &CODES) {
+        Some(code) => Some(*code),
+        None => None,
+    }
 }
 
 /// Whether a name is that of a return code, octet by octet.

@@ -100,14 +100,14 @@ impl Modules {
     }
 
     /// The modules with that of a return code, where no instance of its name was configured.
-    fn with_code(self, code: Code) -> Result<Modules, NoMemory>
-        ensures { IfOk result (λ modules. modules ≡ with_code self code) }
+    fn with_code(self, code: &Code) -> Result<Modules, NoMemory>
+        ensures { IfOk result (λ modules. modules ≡ with_code self code.now) }
     {
-        let name = name_of(code);
+        let name = name_of(*code);
         if self.is_taken(name) || !self.has_room(name) {
             return Ok(self);
         }
-        self.with(name, SiteModule::Always(Always { code }))
+        self.with(name, SiteModule::Always(Always { code: *code }))
     }
 
     /// The modules with those of the return codes.
@@ -124,7 +124,7 @@ fn with_all(known: Modules, codes: &[Code]) -> Result<Modules, NoMemory>
 {
     let mut known = known;
     for code in codes {
-        known = known.with_code(*code)?;
+        known = known.with_code(code)?;
     }
     Ok(known)
 }
