@@ -1,6 +1,5 @@
 pub mod BlockItems
 pub mod FileTurns
-pub mod CodeTurns
 pub mod Moments
 pub mod Running
 pub mod Served

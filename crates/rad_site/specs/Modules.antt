@@ -3,6 +3,7 @@
 use Rattle.std.specs.Prelude.{ℕ, ◌≡◌, ◌+◌, Bool, ◌&&◌, ◌||◌, List, [], ◌∷◌, ◌++◌, length, map, nat_lt, if◌then◌else◌}
 use Rattle.std.specs.Option.{is_some}
 use Rattle.rad_words.specs.declared.codes.Code.{Code}
+use Rattle.rad_words.specs.declared.codes.Code.TheVariants as code
 use Rattle.unlang_tree.specs.Instances.{Instance, number_of}
 use Rattle.rad_site.specs.declared.site_module.SiteModule.{SiteModule}
 use Rattle.rad_site.specs.declared.site_module.SiteModule.TheVariants as site
@@ -45,12 +46,16 @@ and_module known name m = record {
 }
 
 -- The modules with that of a return code, where no instance of its name was configured.
-abbrev pub with_code : Modules → Code → Modules
+unfoldable pub with_code : Modules → Code → Modules
 with_code known answer =
     if is_taken known (name_of answer) then known
     else (if has_room known (name_of answer) then and_module known (name_of answer) (site.Always (record { code = answer })) else known)
 
--- The modules with those of these return codes.
-unfoldable pub with_codes : Modules → List Code → Modules
-with_codes known [] = known
-with_codes known (answer ∷ answers) = with_codes (with_code known answer) answers
+-- The modules with those of three return codes.
+abbrev pub with_three : Modules → Code → Code → Code → Modules
+with_three known first second third = with_code (with_code (with_code known first) second) third
+
+-- The modules with those of the nine.
+abbrev pub with_codes : Modules → Modules
+with_codes known =
+    with_three (with_three (with_three known code.Reject code.Fail code.Ok) code.Handled code.Invalid code.Userlock) code.Notfound code.Noop code.Updated

@@ -20,7 +20,7 @@ use Rattle.rad_site.specs.declared.fault.BuildFault.{BuildFault}
 use Rattle.rad_site.specs.declared.fault.BuildFault.TheVariants as fault
 use Rattle.rad_site.specs.declared.site_module.SiteModule.{SiteModule}
 use Rattle.rad_site.specs.declared.site_module.SiteModule.TheVariants as site
-use Rattle.rad_site.specs.Codes.{code_named, all_codes}
+use Rattle.rad_site.specs.Codes.{code_named}
 use Rattle.rad_site.specs.Nodes.{◌>>=◌, refused, bad_setting, formed, after_each}
 use Rattle.rad_site.specs.Items.{setting_of, pair_named, nodes_of}
 use Rattle.rad_site.specs.Modules.{Modules, no_modules, is_taken, has_room, and_module, with_codes}
@@ -133,4 +133,4 @@ with_modules sources dict known node = after_each (with_module sources dict) kno
 
 -- The modules of a whole configuration: those of its blocks, and those of the return codes.
 unfoldable pub modules_in : Sources → Definitions → List Node → Result Modules BuildFault
-modules_in sources dict nodes = after_each (with_modules sources dict) no_modules nodes >>= λ known. Ok (with_codes known all_codes)
+modules_in sources dict nodes = after_each (with_modules sources dict) no_modules nodes >>= λ known. Ok (with_codes known)

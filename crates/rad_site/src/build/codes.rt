@@ -8,7 +8,7 @@ ghost use Rattle.rad_site.specs.Codes.{name_of, all_codes, code_named, is_code_n
 use rad_words::Code;
 
 /// The nine return codes.
-pub(crate) const CODES: [Code; 9] = [
+const CODES: [Code; 9] = [
     Code::Reject,
     Code::Fail,
     Code::Ok,

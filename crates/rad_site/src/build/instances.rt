@@ -1,10 +1,9 @@
 //! The instances of a site's modules as they are gathered.
 
 ghost use Rattle.std.specs.Prelude.{◌≡◌, true, false, IfOk};
-ghost use Rattle.rad_site.specs.Modules.{no_modules, is_taken, has_room, and_module, with_code, with_codes};
-ghost use Rattle.rad_site.specs.Codes.{all_codes};
+ghost use Rattle.rad_site.specs.Modules.{no_modules, is_taken, has_room, and_module, with_code, with_three, with_codes};
 
-use crate::build::codes::{CODES, is_code_name, name_of};
+use crate::build::codes::{is_code_name, name_of};
 use crate::site_module::SiteModule;
 use mod_base::{Always, Module, Stack};
 use rad_outside::NoMemory;
@@ -100,31 +99,32 @@ impl Modules {
     }
 
     /// The modules with that of a return code, where no instance of its name was configured.
-    fn with_code(self, code: &Code) -> Result<Modules, NoMemory>
-        ensures { IfOk result (λ modules. modules ≡ with_code self code.now) }
+    #[tactic(auto, unfolding(crate::specs::Modules::with_code))]
+    fn with_code(self, code: Code) -> Result<Modules, NoMemory>
+        ensures { IfOk result (λ modules. modules ≡ with_code self code) }
     {
-        let name = name_of(*code);
+        let name = name_of(code);
         if self.is_taken(name) || !self.has_room(name) {
             return Ok(self);
         }
-        self.with(name, SiteModule::Always(Always { code: *code }))
+        self.with(name, SiteModule::Always(Always { code }))
     }
 
-    /// The modules with those of the return codes.
-    pub(crate) fn with_codes(self) -> Result<Modules, NoMemory>
-        ensures { IfOk result (λ modules. modules ≡ with_codes self all_codes) }
+    /// The modules with those of three return codes.
+    fn with_three(self, first: Code, second: Code, third: Code) -> Result<Modules, NoMemory>
+        ensures { IfOk result (λ modules. modules ≡ with_three self first second third) }
     {
-        with_all(self, &CODES)
+        let known = self.with_code(first)?;
+        let known = known.with_code(second)?;
+        known.with_code(third)
     }
-}
 
-/// The modules with those of these return codes.
-fn with_all(known: Modules, codes: &[Code]) -> Result<Modules, NoMemory>
-    ensures { IfOk result (λ modules. modules ≡ with_codes known codes.now) }
-{
-    let mut known = known;
-    for code in codes {
-        known = known.with_code(code)?;
+    /// The modules with those of the nine return codes.
+    pub(crate) fn with_codes(self) -> Result<Modules, NoMemory>
+        ensures { IfOk result (λ modules. modules ≡ with_codes self) }
+    {
+        let known = self.with_three(Code::Reject, Code::Fail, Code::Ok)?;
+        let known = known.with_three(Code::Handled, Code::Invalid, Code::Userlock)?;
+        known.with_three(Code::Notfound, Code::Noop, Code::Updated)
     }
-    Ok(known)
 }
