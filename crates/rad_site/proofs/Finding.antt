@@ -1,12 +1,10 @@
 -- What is read from a site's files, step by step.
-use Rattle.std.proofs.Common.{◌≡◌, ℕ, List, [], ◌∷◌, length, Option, Some, None, Result, Ok, Err, refl, sym, ap, subst, ◌∙◌, arith}
+use Rattle.std.proofs.Common.{◌≡◌, ℕ, List, Option, Some, None, Result, Ok, Err, refl, sym, ap, subst, ◌∙◌}
 use Rattle.rad_outside.specs.Files.{FilesTold}
 use Rattle.rad_policy.specs.Policy.{Sources}
 use Rattle.rad_site.specs.declared.fault.BuildFault.{BuildFault}
 use Rattle.rad_site.specs.declared.fault.BuildFault.TheVariants as fault
-use Rattle.rad_conf.specs.declared.tree.Node.{Node}
-use Rattle.rad_site.specs.Nodes.{◌>>=◌, Fails, Gives, one_of}
-use Rattle.rad_site.specs.ModulesBlock.{alone}
+use Rattle.rad_site.specs.Nodes.{◌>>=◌, Fails, Gives}
 use Rattle.rad_site.specs.Sources.{Misses, Finds, FindsIn}
 
 -- what is read without a file
@@ -15,6 +13,7 @@ misses (fault.Conf wrong) read fails = fails
 misses (fault.Dict wrong) read fails = fails
 misses (fault.Users file wrong) read fails = fails
 misses (fault.Tree wrong) read fails = fails
+misses (fault.UnknownModule place kind) read fails = fails
 misses (fault.BadSetting place name) read fails = fails
 misses fault.ReadFault read fails = tt
 misses fault.NoMemory read fails = tt
@@ -36,6 +35,7 @@ misses_first (fault.Conf wrong) read then_read is = ap (λ r. r >>= then_read) i
 misses_first (fault.Dict wrong) read then_read is = ap (λ r. r >>= then_read) is
 misses_first (fault.Users file wrong) read then_read is = ap (λ r. r >>= then_read) is
 misses_first (fault.Tree wrong) read then_read is = ap (λ r. r >>= then_read) is
+misses_first (fault.UnknownModule place kind) read then_read is = ap (λ r. r >>= then_read) is
 misses_first (fault.BadSetting place name) read then_read is = ap (λ r. r >>= then_read) is
 misses_first fault.ReadFault read then_read is = tt
 misses_first fault.NoMemory read then_read is = tt
@@ -68,33 +68,3 @@ FindsIn-same folder reading other answer a None is finds = tt
 FindsIn-same folder reading other answer None (Some now) is finds = absurd finds
 FindsIn-same folder reading other answer (Some before) (Some now) is finds =
     (finds.0, subst (λ r. Finds answer r) (is (record { files = before.present; folder = folder })) finds.1)
-
--- the one node of a list is read, and then no other may stand there
-one_of-first : {A : Type 0} (missing : Result A BuildFault) (read : Node → Result A BuildFault) (node : Node) (others : List Node)
-    → (read node >>= λ x. alone x others) ≡ one_of missing read (node ∷ others)
-unfolding one_of
-one_of-first {A = A} missing read node [] = alone (read node) where
-  alone : (r : Result A BuildFault) → (r >>= λ x. Ok x) ≡ r
-  alone (Ok x) = refl
-  alone (Err e) = refl
-one_of-first missing read node (second ∷ more) = refl
-
-pub one_of-none : {A : Type 0} (missing : Result A BuildFault) (read : Node → Result A BuildFault) (nodes : List Node) → length nodes ≡ 0 → one_of missing read nodes ≡ missing
-unfolding one_of
-one_of-none missing read [] is = refl
-one_of-none missing read (node ∷ nodes) is = absurd (omega arith)
-
-pub one_of-stops : {A : Type 0} (folder : List ℕ) (missing : Result A BuildFault) (reading : Sources → Node → Result A BuildFault) (all others : List Node) (node : Node) (e : BuildFault) (a b : Option FilesTold)
-    → all ≡ node ∷ others → FindsIn folder (λ sources. reading sources node) (Err e) a b → FindsIn folder (λ sources. one_of missing (reading sources) all) (Err e) a b
-one_of-stops folder missing reading all others node e a b is finds =
-    FindsIn-same folder (λ sources. reading sources node >>= λ x. alone x others) (λ sources. one_of missing (reading sources) all) (Err e) a b
-    (λ sources. one_of-first missing (reading sources) node others ∙ ap (one_of missing (reading sources)) (sym is))
-    (FindsIn-stops folder (λ sources. reading sources node) (λ sources x. alone x others) e a b finds)
-
-pub one_of-read : {A : Type 0} (folder : List ℕ) (missing : Result A BuildFault) (reading : Sources → Node → Result A BuildFault) (all others : List Node) (node : Node) (x : A) (answer : Result A BuildFault) (a b : Option FilesTold)
-    → all ≡ node ∷ others → FindsIn folder (λ sources. reading sources node) (Ok x) a b → Gives answer (alone x others) → FindsIn folder (λ sources. one_of missing (reading sources) all) answer a b
-one_of-read folder missing reading all others node x answer a b is finds gives =
-    FindsIn-same folder (λ sources. reading sources node >>= λ y. alone y others) (λ sources. one_of missing (reading sources) all) answer a b
-    (λ sources. one_of-first missing (reading sources) node others ∙ ap (one_of missing (reading sources)) (sym is))
-    (FindsIn-then folder (λ sources. reading sources node) (λ sources y. alone y others) x answer a b b finds
-    (FindsIn-pure folder (λ sources. alone x others) answer (alone x others) b (λ sources. refl) gives))

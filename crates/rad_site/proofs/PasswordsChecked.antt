@@ -1,33 +1,41 @@
--- An accepted request has its user's password.
-use Rattle.std.specs.Prelude.{ok_or, unwrap_or}
+-- An accepted request has the password that is known.
+use Rattle.std.specs.Prelude.{ok_or, slice_get, unwrap_or}
+use Rattle.std.specs.Option.{option_map, option_and_then}
 use Rattle.std.specs.Str.{str_eq_ignore_ascii_case}
-use Rattle.std.proofs.Common.{◌≡◌, ℕ, ◌<◌, Bool, true, false, cond, List, [], ◌∷◌, length, Option, Some, None, Ok, Err, Contains, codes, bytes_eq, refl, sym, ap, subst, ◌∙◌, arith}
-use Rattle.std.proofs.lemmas.Slice.Eq.{bytes_eq-Decides}
+use Rattle.std.proofs.Common.{◌≡◌, ℕ, Bool, true, false, cond, List, [], ◌∷◌, Option, Some, None, Result, Ok, Err, codes, refl, sym, ap, subst, ◌∙◌}
 use Rattle.rad_words.specs.declared.codes.Code.{Code}
 use Rattle.rad_words.specs.declared.codes.Code.TheVariants as code
+use Rattle.rad_words.specs.declared.sections.Section.{Section}
 use Rattle.rad_words.specs.declared.sections.Section.TheVariants.{Authorize, Authenticate}
-use Rattle.rad_value.specs.declared.values.Pair.{Pair}
 use Rattle.rad_value.specs.Pairs.{first_text}
 use Rattle.rad_value.specs.PairLists.{PairLists}
+use Rattle.rad_value.specs.declared.values.Pair.{Pair}
 use Rattle.rad_dict.specs.Definitions.{Definitions}
-use Rattle.rad_wire.specs.Pairs.{requested}
-use Rattle.rad_index.proofs.Finds.{find_fits}
-use Rattle.mod_files.specs.declared.entry.Entry.{Entry}
-use Rattle.mod_files.specs.Entries.{users_of}
-use Rattle.rad_site.specs.declared.judgement.Child.{Child}
-use Rattle.rad_site.specs.declared.statement.Statement.{Statement}
-use Rattle.rad_site.specs.declared.statement.Statement.TheVariants as statement
-use Rattle.rad_site.specs.declared.statement.Subsection.{Subsection}
+use Rattle.mod_base.specs.Situation.{Situation}
+use Rattle.mod_auth.specs.LetsIn.{KnowsThePassword}
+use Rattle.mod_auth.specs.Pap as pap
+use Rattle.mod_auth.proofs.LetIn.{pap_lets_in}
+use Rattle.unlang_tree.specs.declared.statement.Statement.{Statement}
+use Rattle.unlang_tree.specs.declared.statement.StatementKind.{StatementKind}
+use Rattle.unlang_tree.specs.declared.statement.StatementKind.TheVariants as kinds
+use Rattle.unlang_tree.specs.declared.policies.SectionTree.{SectionTree}
+use Rattle.unlang_tree.specs.declared.policies.ServerTree.{ServerTree}
+use Rattle.unlang_code.specs.declared.section_id.SectionId.{SectionId}
+use Rattle.unlang_code.specs.Judgement.{default_code}
+use Rattle.unlang_code.specs.Leaves.{EachLeaf, LeafKeeps, leaves_of}
+use Rattle.unlang_code.specs.Run.{Outcome, in_scope, begun, called_of, called_with, kind_done, is_over, and_then, block_of, judged_in, section_done}
+use Rattle.unlang_code.specs.Sections.{server_of, subsection_of, section_in, found, statements_of}
+use Rattle.unlang_code.proofs.Keeping.{section_keeps}
+use Rattle.rad_site.specs.declared.site_module.SiteModule.{SiteModule}
+use Rattle.rad_site.specs.declared.site_module.SiteModule.TheVariants as site
 use Rattle.rad_site.specs.declared.verdict.Verdict.{Verdict}
 use Rattle.rad_site.specs.declared.verdict.Verdict.TheVariants as verdict
-use Rattle.rad_site.specs.Access.{after_authorize, after_authenticate, is_named, subsection_of, route_of, decided_there, decided_behind, decided}
-use Rattle.rad_site.specs.Attributes.{user_password, auth_type}
-use Rattle.rad_site.specs.Judgement.{child_of, ends, judged}
-use Rattle.rad_site.specs.Pap.{given_password, known_password, pap_authenticated}
-use Rattle.rad_site.specs.Passwords.{ChecksPasswords, HasPassword}
-use Rattle.rad_site.specs.Run.{statement_done, run_of, section_done}
-use Rattle.rad_site.proofs.UsersChecks.{one_password}
-use Rattle.rad_site.proofs.PasswordKept.{Keeps, IsNotAccept, authorize_keeps}
+use Rattle.rad_site.specs.Access.{after_authorize, after_authenticate, section_named, route_of, done_in, authorized_by, authorized, decided_there, decided_behind, decided}
+use Rattle.rad_site.specs.Attributes.{auth_type}
+use Rattle.rad_site.specs.Passwords.{is_accept, NeverAccept, IsPapAlone, ChecksPasswords}
+use Rattle.rad_site.specs.Policies.{Policies}
+use Rattle.rad_site.specs.SiteModules.{site_module}
+use Rattle.rad_site.proofs.AuthTypes.{Never, leaves_never, first_is_other}
 
 -- By its code authorize never accepts.
 never_at_once : (answer : Code) → after_authorize answer ≡ Some verdict.Accept → ⊥
@@ -41,97 +49,103 @@ never_at_once code.Notfound is = cc
 never_at_once code.Noop is = cc
 never_at_once code.Updated is = cc
 
--- What a section of `pap` alone decides, by its code.
-abbrev pub decided_by : PairLists → Code → Verdict
-decided_by lists answer =
-    let child = child_of Authenticate answer in
-    let run = cond {A = PairLists × List Child} (ends child) (lists, child ∷ []) (lists, child ∷ []) in
-    after_authenticate (unwrap_or (judged run.1) code.Reject)
+-- the code of a section of one piece
+abbrev of_piece : Outcome → Code
+of_piece piece = (judged_in Authenticate (and_then (is_over piece) piece (block_of []))).1
 
--- It accepts by ok alone.
-only_ok : (lists : PairLists) (answer : Code) → decided_by lists answer ≡ verdict.Accept → answer ≡ code.Ok
-only_ok lists code.Reject is = absurd (cc)
-only_ok lists code.Fail is = absurd (cc)
-only_ok lists code.Ok is = refl
-only_ok lists code.Handled is = absurd (cc)
-only_ok lists code.Invalid is = absurd (cc)
-only_ok lists code.Userlock is = absurd (cc)
-only_ok lists code.Notfound is = absurd (cc)
-only_ok lists code.Noop is = absurd (cc)
-only_ok lists code.Updated is = absurd (cc)
+-- By a call with no actions of its own it accepts by ok alone.
+only_ok : (s : Situation) (answer : Code) → after_authenticate (of_piece (called_with Authenticate [] (s, answer))) ≡ verdict.Accept → answer ≡ code.Ok
+only_ok s code.Reject is = absurd (cc)
+only_ok s code.Fail is = absurd (cc)
+only_ok s code.Ok is = refl
+only_ok s code.Handled is = absurd (cc)
+only_ok s code.Invalid is = absurd (cc)
+only_ok s code.Userlock is = absurd (cc)
+only_ok s code.Notfound is = absurd (cc)
+only_ok s code.Noop is = absurd (cc)
+only_ok s code.Updated is = absurd (cc)
 
-pap_accepts : (users : List Entry) (lists : PairLists) → after_authenticate (section_done users Authenticate (statement.Pap ∷ []) lists).1 ≡ verdict.Accept → pap_authenticated (given_password lists) (known_password lists) ≡ code.Ok
-unfolding statement_done run_of section_done
-pap_accepts users lists is = only_ok lists (pap_authenticated (given_password lists) (known_password lists)) is
+module _ (policies : Policies) (dict : Definitions) where
+  -- a section of `pap` alone
+  by_pap : (statements : List Statement) (s : Situation) → IsPapAlone policies.stack statements → after_authenticate (section_done site_module policies.stack dict Authenticate statements s).1 ≡ verdict.Accept
+      → pap.authenticated s.scope.lists ≡ code.Ok
+  by_pap statements s alone is =
+      let started = in_scope (begun s.scope) s in
+      let one = alone.statement in
+      let done = site_module.does (site.Pap alone.pap) dict Authenticate started in
+      let piece : kind_done site_module policies.stack dict Authenticate one.kind started ≡ called_with Authenticate [] done =
+      ap (λ (k : StatementKind). kind_done site_module policies.stack dict Authenticate k started) alone.calls
+      ∙ ap (λ (m : Option SiteModule). called_of site_module dict Authenticate [] m started) alone.is_pap in
+      let accepted = subst (λ (all : List Statement). after_authenticate (section_done site_module policies.stack dict Authenticate all s).1 ≡ verdict.Accept) alone.alone is in
+      only_ok done.0 done.1 (subst (λ (p : Outcome). after_authenticate (of_piece p) ≡ verdict.Accept) piece accepted)
 
--- The password that is given is the one that is known, and isn't empty.
-record AreSame (given known : Option (List ℕ)) : Type 0 where
-  password : List ℕ
-  given_is : given ≡ Some password
-  known_is : known ≡ Some password
-  not_empty : 0 < length password
+  found_kind : (section : Option SectionTree) (server : ℕ) (kind : Section) (name : List ℕ) (id : SectionId)
+      → option_and_then (λ (tree : SectionTree). option_map (λ number. let one : SectionId = record { server = server; section = kind; sub = Some number } in one) (subsection_of tree.subsections name)) section ≡ Some id → id.section ≡ kind
+  found_kind None server kind name id is = absurd (cc)
+  found_kind (Some tree) server kind name id is = by_number (subsection_of tree.subsections name) is where
+    by_number : (number : Option ℕ) → option_map (λ n. let one : SectionId = record { server = server; section = kind; sub = Some n } in one) number ≡ Some id → id.section ≡ kind
+    by_number None same = absurd (cc)
+    by_number (Some n) same = cc
 
-by_equality : (c : ℕ) (more known : List ℕ) (same : Bool) → bytes_eq known (c ∷ more) ≡ same → cond same code.Ok code.Reject ≡ code.Ok → AreSame (Some (c ∷ more)) (Some known)
-by_equality c more known true same is = record {
-  password = c ∷ more;
-  given_is = refl;
-  known_is = ap (λ (k : List ℕ). Some k) ((bytes_eq-Decides known (c ∷ more)).0 same);
-  not_empty = omega arith;
-}
-by_equality c more known false same is = absurd (cc)
+  named_kind : (server : Option ℕ) (kind : Section) (name : List ℕ) (id : SectionId) → option_and_then (λ (number : ℕ). found policies.table number kind (Some name)) server ≡ Some id → id.section ≡ kind
+  unfolding found
+  named_kind None kind name id is = absurd (cc)
+  named_kind (Some number) kind name id is = found_kind (section_in policies.table number kind) number kind name id is
 
-are_same : (given known : Option (List ℕ)) → pap_authenticated given known ≡ code.Ok → AreSame given known
-are_same None known is = absurd (cc)
-are_same (Some []) known is = absurd (cc)
-are_same (Some (c ∷ more)) None is = absurd (cc)
-are_same (Some (c ∷ more)) (Some known) is = by_equality c more known (bytes_eq known (c ∷ more)) refl is
+  module _ (server : List ℕ) (checks : ChecksPasswords policies server) where
+    by_statements : (name : List ℕ) (id : SectionId) (statements : Option (List Statement)) (s : Situation) → section_named policies.table server Authenticate (Some name) ≡ Some id → statements_of policies.table id ≡ statements
+        → after_authenticate (section_done site_module policies.stack dict Authenticate (unwrap_or statements []) s).1 ≡ verdict.Accept → pap.authenticated s.scope.lists ≡ code.Ok
+    by_statements name id None s named at is = absurd (cc)
+    by_statements name id (Some statements) s named at is = by_pap statements s (checks.pap_alone name id statements named at) is
 
-has_password : (users : List Entry) (pairs : List Pair) (lists : PairLists) → Keeps users pairs lists → AreSame (given_password lists) (known_password lists) → HasPassword users (requested pairs)
-has_password users pairs lists keeps same =
-    let of_user = keeps.known same.password same.known_is in record {
-      entry = of_user.entry;
-      password = same.password;
-      found = of_user.found;
-      checks = of_user.checks;
-      given = ap (first_text user_password) (sym keeps.request) ∙ same.given_is;
-      not_empty = same.not_empty;
-    }
+    by_section : (name : List ℕ) (id : SectionId) (s : Situation) → section_named policies.table server Authenticate (Some name) ≡ Some id → after_authenticate (done_in policies dict id s).1 ≡ verdict.Accept
+        → pap.authenticated s.scope.lists ≡ code.Ok
+    unfolding section_named
+    by_section name id s named is =
+        by_statements name id (statements_of policies.table id) s named refl
+        (subst (λ (kind : Section). after_authenticate (section_done site_module policies.stack dict kind (unwrap_or (statements_of policies.table id) []) s).1 ≡ verdict.Accept)
+        (named_kind (server_of policies.table server) Authenticate name id named) is)
 
--- An Auth-Type that isn't `Accept` accepts through its subsection.
-by_route : (users : List Entry) (lists : PairLists) (accepts rejects : Bool) (found : Option Subsection) → accepts ≡ false
-    → ((subsection : Subsection) → found ≡ Some subsection → subsection.statements ≡ statement.Pap ∷ [])
-    → (decided_there users (cond accepts (Err verdict.Accept) (cond rejects (Err verdict.Reject) (ok_or found verdict.Reject))) lists).1 ≡ verdict.Accept
-    → AreSame (given_password lists) (known_password lists)
-by_route users lists true rejects found other alone is = absurd (cc)
-by_route users lists false true found other alone is = absurd (cc)
-by_route users lists false false None other alone is = absurd (cc)
-by_route users lists false false (Some subsection) other alone is =
-    let accepted = subst (λ (statements : List Statement). after_authenticate (section_done users Authenticate statements lists).1 ≡ verdict.Accept) (alone subsection refl) is in
-    are_same (given_password lists) (known_password lists) (pap_accepts users lists accepted)
+    by_id : (name : List ℕ) (id : Option SectionId) (s : Situation) → section_named policies.table server Authenticate (Some name) ≡ id → (decided_there policies dict (ok_or id verdict.Reject) s).1 ≡ verdict.Accept
+        → pap.authenticated s.scope.lists ≡ code.Ok
+    by_id name None s named is = absurd (cc)
+    by_id name (Some id) s named is = by_section name id s named is
 
-by_name : (users : List Entry) (lists : PairLists) (subsections : List Subsection) (named : Option (List ℕ))
-    → ((name : List ℕ) → named ≡ Some name → IsNotAccept name)
-    → ((subsection : Subsection) → Contains subsections subsection → subsection.statements ≡ statement.Pap ∷ [])
-    → (decided_there users (route_of named subsections) lists).1 ≡ verdict.Accept → AreSame (given_password lists) (known_password lists)
-by_name users lists subsections None other alone is = absurd (cc)
-by_name users lists subsections (Some name) other alone is =
-    by_route users lists (str_eq_ignore_ascii_case name (codes "Accept")) (str_eq_ignore_ascii_case name (codes "Reject")) (subsection_of name subsections) (other name refl)
-    (λ subsection found. alone subsection (find_fits (is_named name) subsections subsection found).0)
-    is
+    by_tests : (name : List ℕ) (accepts rejects : Bool) (s : Situation) → accepts ≡ false
+        → (decided_there policies dict (cond accepts (Err verdict.Accept) (cond rejects (Err verdict.Reject) (ok_or (section_named policies.table server Authenticate (Some name)) verdict.Reject))) s).1 ≡ verdict.Accept
+        → pap.authenticated s.scope.lists ≡ code.Ok
+    by_tests name true rejects s other is = absurd (cc)
+    by_tests name false true s other is = absurd (cc)
+    by_tests name false false s other is = by_id name (section_named policies.table server Authenticate (Some name)) s refl is
 
-by_authorize : (users : List Entry) (pairs : List Pair) (subsections : List Subsection) (lists : PairLists) (at_once : Option Verdict)
-    → ((subsection : Subsection) → Contains subsections subsection → subsection.statements ≡ statement.Pap ∷ [])
-    → (at_once ≡ Some verdict.Accept → ⊥) → Keeps users pairs lists → (decided_behind users subsections at_once lists).1 ≡ verdict.Accept → HasPassword users (requested pairs)
-by_authorize users pairs subsections lists (Some answer) alone never keeps is = absurd (never (ap (λ (v : Verdict). Some v) is))
-by_authorize users pairs subsections lists None alone never keeps is =
-    has_password users pairs lists keeps (by_name users lists subsections (first_text auth_type lists.control) keeps.named alone is)
+    by_name : (named : Option (List ℕ)) (s : Situation) → ((name : List ℕ) → named ≡ Some name → is_accept name ≡ false)
+        → (decided_there policies dict (route_of policies.table server named) s).1 ≡ verdict.Accept → pap.authenticated s.scope.lists ≡ code.Ok
+    by_name None s other is = absurd (cc)
+    by_name (Some name) s other is = by_tests name (str_eq_ignore_ascii_case name (codes "Accept")) (str_eq_ignore_ascii_case name (codes "Reject")) s (other name refl) is
 
--- An accepted request has its user's password.
-pub accepted_has_password : (text : List ℕ) (dict : Definitions) (users : List Entry) (authorize : List Statement) (subsections : List Subsection) (pairs : List Pair)
-    → users_of text dict ≡ Ok users → ChecksPasswords authorize subsections
-    → (decided users authorize subsections (requested pairs)).1 ≡ verdict.Accept → HasPassword users (requested pairs)
-unfolding decided
-accepted_has_password text dict users authorize subsections pairs built checks is =
-    let done = section_done users Authorize authorize (requested pairs) in
-    by_authorize users pairs subsections done.0 (after_authorize done.1) checks.pap_alone (never_at_once done.1)
-    (authorize_keeps users pairs authorize (one_password text dict users built) checks.never_accepts) is
+    behind : (so_far : Option Verdict) (s : Situation) → (so_far ≡ Some verdict.Accept → ⊥) → Never s.scope.lists → (decided_behind policies dict server so_far s).1 ≡ verdict.Accept → pap.authenticated s.scope.lists ≡ code.Ok
+    behind (Some answer) s never all is = absurd (never (ap (λ (v : Verdict). Some v) is))
+    behind None s never all is = by_name (first_text auth_type s.scope.lists.control) s (λ name named. first_is_other s.scope.lists name all named) is
+
+    -- what authorize leaves
+    leaves_other : (id : SectionId) (statements : Option (List Statement)) → section_named policies.table server Authorize None ≡ Some id → statements_of policies.table id ≡ statements
+        → EachLeaf (LeafKeeps Never site_module policies.stack dict id.section) (unwrap_or statements [])
+    leaves_other id None named at = tt
+    leaves_other id (Some statements) named at = leaves_never policies.stack dict id.section (leaves_of statements) (checks.never_accepts id statements named at)
+
+    authorize_other : (id : Option SectionId) (s : Situation) → section_named policies.table server Authorize None ≡ id → Never s.scope.lists
+        → Never (authorized_by policies dict id s).0.scope.lists × ((authorized_by policies dict id s).1 ≡ Some verdict.Accept → ⊥)
+    authorize_other None s named all = (all, λ is. cc)
+    authorize_other (Some id) s named all = (
+      section_keeps Never site_module policies.stack dict id.section (unwrap_or (statements_of policies.table id) []) (leaves_other id (statements_of policies.table id) named refl) s all,
+      never_at_once (done_in policies dict id s).1,
+    )
+
+    -- An accepted request has the password that is known.
+    pub accepted_knows : (s : Situation) → s.scope.lists.control ≡ [] → (decided policies dict server s).1 ≡ verdict.Accept → KnowsThePassword (authorized policies dict server s).0.scope.lists
+    unfolding decided
+    accepted_knows s empty is =
+        let done = authorized policies dict server s in
+        let begins : Never s.scope.lists = rw empty tt in
+        let kept = authorize_other (section_named policies.table server Authorize None) s refl begins in
+        (pap_lets_in done.0.scope.lists).0 (behind done.1 done.0 kept.1 kept.0 is)

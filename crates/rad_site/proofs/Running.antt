@@ -1,97 +1,126 @@
--- The statements of a section, one after the other, as a loop runs them.
-use Rattle.std.specs.Prelude.{unwrap_or}
-use Rattle.std.proofs.Common.{◌≡◌, ℕ, ◌+◌, ◌<◌, ◌≤◌, Bool, true, false, cond, List, [], ◌∷◌, length, get_or, drop, Option, Some, None, refl, sym, ap, ◌∙◌}
-use Rattle.std.proofs.lemmas.List.{drop_all, drop_more}
+-- Sections are run, one after another, as they are decided.
+use Rattle.std.specs.Prelude.{IfSome, IfOk, OnOk}
+use Rattle.std.specs.Option.{is_none}
+use Rattle.std.proofs.Common.{◌≡◌, ℕ, Bool, true, false, List, [], ◌++◌, Option, Some, None, Result, Ok, Err, sym, ap, subst, ◌∙◌}
 use Rattle.rad_words.specs.declared.codes.Code.{Code}
 use Rattle.rad_words.specs.declared.sections.Section.{Section}
-use Rattle.rad_value.specs.PairLists.{PairLists}
-use Rattle.mod_files.specs.declared.entry.Entry.{Entry}
-use Rattle.rad_site.specs.declared.judgement.Child.{Child}
-use Rattle.rad_site.specs.declared.statement.Statement.{Statement}
-use Rattle.rad_site.specs.Judgement.{child_of, ends, ended_by, ending_code, heavier_of, default_code}
-use Rattle.rad_site.specs.Run.{statement_done, run_of, section_done}
-use Rattle.rad_site.proofs.Judging.{judged_behind, judged_is}
+use Rattle.rad_words.specs.declared.sections.Section.TheVariants.{Authorize}
+use Rattle.rad_value.specs.declared.scope.Scope.{Scope}
+use Rattle.rad_value.specs.Pairs.{first_text}
+use Rattle.rad_dict.specs.Definitions.{Definitions}
+use Rattle.rad_world.specs.Effects.{Effect, answers_of}
+use Rattle.rad_world.specs.World.{WorldState}
+use Rattle.mod_base.specs.Situation.{Situation, situation_in}
+use Rattle.mod_base.specs.Reaching.{Reaches}
+use Rattle.mod_base.proofs.Reached.{reaches_start, reaches_then, reaches_joined}
+use Rattle.unlang_tree.specs.declared.policies.ServerTree.{ServerTree}
+use Rattle.unlang_code.specs.declared.section_id.SectionId.{SectionId}
+use Rattle.unlang_code.specs.Sections.{found}
+use Rattle.unlang_code.proofs.Finding.{found_stands}
+use Rattle.rad_site.specs.declared.verdict.Verdict.{Verdict}
+use Rattle.rad_site.specs.Attributes.{auth_type}
+use Rattle.rad_site.specs.Policies.{Policies}
+use Rattle.rad_site.specs.SiteModules.{site_module}
+use Rattle.rad_site.specs.SiteLaws.{site_module_lawful}
+use Rattle.rad_site.specs.Access.{section_named, HasStatements, route_of, verdict_by, settled, done_in, after_authorize, after_authenticate, authorized_by, authorized, decided_there, authenticated, decided_behind, decided, IsReady}
+use Rattle.rad_site.proofs.Moments.{section_keeps_moment}
 
--- the section's end, from the heaviest child so far and what is still to run
-pub ended_with : Section → Option Child → PairLists × List Child → PairLists × Code
-ended_with the_section leading run = (run.0, unwrap_or (judged_behind leading run.1) (default_code the_section))
+-- what was found has statements
+pub stands_if : (table : List ServerTree) (number : ℕ) (kind : Section) (sub : Option (List ℕ)) (result : Option SectionId) → result ≡ found table number kind sub → IfSome result (HasStatements table)
+stands_if table number kind sub None is = tt
+stands_if table number kind sub (Some id) is = found_stands table number kind sub id (sym is)
 
--- what is still to run from a statement on, behind the heaviest so far, ends as the whole section does
-abbrev pub EndsAs : List Entry → Section → List Statement → PairLists → Option Child → List Statement → PairLists → Type 0
-EndsAs users the_section all first leading rest lists =
-    ended_with the_section leading (run_of users the_section rest lists) ≡ section_done users the_section all first
+-- a meaning that is the same where a run began is as good
+pub reaches_from : {A : Type 0} (s0 s1 : Scope) (w0 w1 : WorldState) (meaning other left : Situation → A) → ((later : List Bool) (earlier : List Effect) → other (situation_in s0 w0 later earlier) ≡ meaning (situation_in s0 w0 later earlier))
+    → Reaches s0 w0 meaning s1 w1 left → Reaches s0 w0 other s1 w1 left
+reaches_from s0 s1 w0 w1 meaning other left before a = record {
+  added = a.added;
+  gains = a.gains;
+  same = λ later earlier. before (answers_of a.added ++ later) earlier ∙ a.same later earlier;
+}
 
-pub EndsAs-all : (users : List Entry) (the_section : Section) (all : List Statement) (lists : PairLists) → EndsAs users the_section all lists None all lists
-unfolding ended_with section_done
-EndsAs-all users the_section all lists =
-    ap (λ (code : Option Code). ((run_of users the_section all lists).0, unwrap_or code (default_code the_section))) (sym (judged_is (run_of users the_section all lists).1))
+module _ (policies : Policies) (dict : Definitions) where
+  -- behind a section everything is ready for another
+  pub ready_behind : (id : SectionId) (s0 s1 : Scope) (w0 w1 : WorldState) (answer : Code) → Reaches s0 w0 (done_in policies dict id) s1 w1 (λ s. (s, answer)) → IsReady s0 w0 → IsReady s1 w1
+  ready_behind id s0 s1 w0 w1 answer reached ready =
+      let s = situation_in s0 w0 (answers_of reached.added ++ []) [] in
+      let same : s1.moment ≡ s0.moment =
+      ap (λ (d : Situation × Code). d.0.scope.moment) (sym (reached.same [] [])) ∙ section_keeps_moment site_module site_module_lawful policies.stack dict policies.table id s in record {
+        in_time = rw same ready.in_time;
+        changes = reached.gains.takes_changes ∙ ready.changes;
+      }
 
-from_here : (all : List Statement) (i : ℕ) (statement : Statement) → i < length all → statement ≡ get_or all i statement → drop i all ≡ statement ∷ drop (i + 1) all
-from_here all i statement lt is = drop_more all i statement lt ∙ ap (λ s. s ∷ drop (i + 1) all) (sym is)
+  pub without_authorize : (server : List ℕ) (s0 : Scope) (w0 : WorldState) → section_named policies.table server Authorize None ≡ None → Reaches s0 w0 (authorized policies dict server) s0 w0 (λ s. (s, None))
+  without_authorize server s0 w0 is =
+      reaches_from s0 s0 w0 w0 (λ s. (s, None)) (authorized policies dict server) (λ s. (s, None))
+      (λ later earlier. ap (λ o. authorized_by policies dict o (situation_in s0 w0 later earlier)) is)
+      (reaches_start s0 w0 (λ s. (s, None)))
 
--- one statement, by whether its child ends the section
-after_one : Section → Option Child → Child → Bool → PairLists → PairLists × List Child → PairLists × Code
-after_one the_section leading child true lists more = (lists, ending_code child)
-after_one the_section leading child false lists more = ended_with the_section (Some (heavier_of leading child)) more
+  pub with_authorize : (server : List ℕ) (id : SectionId) (s0 s1 : Scope) (w0 w1 : WorldState) (answer : Code) → section_named policies.table server Authorize None ≡ Some id
+      → Reaches s0 w0 (done_in policies dict id) s1 w1 (λ s. (s, answer)) → Reaches s0 w0 (authorized policies dict server) s1 w1 (λ s. (s, after_authorize answer))
+  with_authorize server id s0 s1 w0 w1 answer is reached =
+      let more : Situation × Code → Situation × Option Verdict = λ d. (d.0, after_authorize d.1) in
+      reaches_from s0 s1 w0 w1 (λ s. more (done_in policies dict id s)) (authorized policies dict server) (λ s. (s, after_authorize answer))
+      (λ later earlier. ap (λ o. authorized_by policies dict o (situation_in s0 w0 later earlier)) is)
+      (reaches_then s0 s1 w0 w1 (done_in policies dict id) (λ s. (s, answer)) more reached)
 
-one_more : (the_section : Section) (leading : Option Child) (child : Child) (lists : PairLists) (more : PairLists × List Child) (t : Bool) → ends child ≡ t
-    → ended_with the_section leading (cond t (lists, child ∷ []) (more.0, child ∷ more.1)) ≡ after_one the_section leading child t lists more
-unfolding ended_with after_one
-one_more the_section leading child lists more true is =
-    ap (λ b. (lists, unwrap_or (cond b (Some (ending_code child)) (judged_behind (Some (heavier_of leading child)) [])) (default_code the_section))) is
-one_more the_section leading child lists more false is =
-    ap (λ b. (more.0, unwrap_or (cond b (Some (ending_code child)) (judged_behind (Some (heavier_of leading child)) more.1)) (default_code the_section))) is
+  pub by_verdict : (server : List ℕ) (verdict : Verdict) (s0 : Scope) (w0 : WorldState) → route_of policies.table server (first_text auth_type s0.lists.control) ≡ Err verdict
+      → Reaches s0 w0 (authenticated policies dict server) s0 w0 (λ s. (s, verdict))
+  by_verdict server verdict s0 w0 is =
+      reaches_from s0 s0 w0 w0 (λ s. (s, verdict)) (authenticated policies dict server) (λ s. (s, verdict))
+      (λ later earlier. ap (λ r. decided_there policies dict r (situation_in s0 w0 later earlier)) is)
+      (reaches_start s0 w0 (λ s. (s, verdict)))
 
-step : (users : List Entry) (the_section : Section) (leading : Option Child) (all : List Statement) (i : ℕ) (statement : Statement) (lists next : PairLists) (code : Code) (t : Bool)
-    → i < length all → statement ≡ get_or all i statement → (next, code) ≡ statement_done users the_section statement lists → ends (child_of the_section code) ≡ t
-    → ended_with the_section leading (run_of users the_section (drop i all) lists) ≡ after_one the_section leading (child_of the_section code) t next (run_of users the_section (drop (i + 1) all) next)
-unfolding run_of
-step users the_section leading all i statement lists next code t lt is done ending =
-    ap (λ rest. ended_with the_section leading (run_of users the_section rest lists)) (from_here all i statement lt is)
-    ∙ ap (λ (d : PairLists × Code). ended_with the_section leading (cond (ends (child_of the_section d.1)) (d.0, child_of the_section d.1 ∷ []) ((run_of users the_section (drop (i + 1) all) d.0).0, child_of the_section d.1 ∷ (run_of users the_section (drop (i + 1) all) d.0).1))) (sym done)
-    ∙ ap (λ b. ended_with the_section leading (cond b (next, child_of the_section code ∷ []) ((run_of users the_section (drop (i + 1) all) next).0, child_of the_section code ∷ (run_of users the_section (drop (i + 1) all) next).1))) ending
-    ∙ one_more the_section leading (child_of the_section code) next (run_of users the_section (drop (i + 1) all) next) t ending
+  pub by_subsection : (server : List ℕ) (id : SectionId) (s0 s1 : Scope) (w0 w1 : WorldState) (answer : Code) → route_of policies.table server (first_text auth_type s0.lists.control) ≡ Ok id
+      → Reaches s0 w0 (done_in policies dict id) s1 w1 (λ s. (s, answer)) → Reaches s0 w0 (authenticated policies dict server) s1 w1 (λ s. (s, after_authenticate answer))
+  by_subsection server id s0 s1 w0 w1 answer is reached =
+      let more : Situation × Code → Situation × Verdict = λ d. (d.0, after_authenticate d.1) in
+      reaches_from s0 s1 w0 w1 (λ s. more (done_in policies dict id s)) (authenticated policies dict server) (λ s. (s, after_authenticate answer))
+      (λ later earlier. ap (λ r. decided_there policies dict r (situation_in s0 w0 later earlier)) is)
+      (reaches_then s0 s1 w0 w1 (done_in policies dict id) (λ s. (s, answer)) more reached)
 
-is_ending : (t : Bool) (code answer : Code) → cond t (Some code) None ≡ Some answer → (t ≡ true) × (code ≡ answer)
-is_ending true code answer is = (refl, cc)
-is_ending false code answer is = absurd (cc)
+  behind_authorize : (server : List ℕ) (s0 s1 : Scope) (w0 w1 : WorldState) (decided_so_far : Option Verdict) → Reaches s0 w0 (authorized policies dict server) s1 w1 (λ s. (s, decided_so_far))
+      → Reaches s0 w0 (decided policies dict server) s1 w1 (decided_behind policies dict server decided_so_far)
+  unfolding decided
+  behind_authorize server s0 s1 w0 w1 decided_so_far reached =
+      reaches_then s0 s1 w0 w1 (authorized policies dict server) (λ s. (s, decided_so_far)) (λ d. decided_behind policies dict server d.1 d.0) reached
 
-is_going_on : (t : Bool) (code : Code) → cond t (Some code) None ≡ None → t ≡ false
-is_going_on true code is = absurd (cc)
-is_going_on false code is = refl
+  pub decided_at_once : (server : List ℕ) (verdict : Verdict) (s0 s1 : Scope) (w0 w1 : WorldState) → Reaches s0 w0 (authorized policies dict server) s1 w1 (λ s. (s, Some verdict))
+      → Reaches s0 w0 (decided policies dict server) s1 w1 (λ s. (s, verdict))
+  decided_at_once server verdict s0 s1 w0 w1 reached = behind_authorize server s0 s1 w0 w1 (Some verdict) reached
 
--- a child that ends the section gives its code
-pub ends_here : (users : List Entry) (the_section : Section) (all : List Statement) (first : PairLists) (leading : Option Child) (i : ℕ) (statement : Statement) (lists next : PairLists) (code answer : Code)
-    → i < length all → statement ≡ get_or all i statement → (next, code) ≡ statement_done users the_section statement lists → ended_by (child_of the_section code) ≡ Some answer
-    → EndsAs users the_section all first leading (drop i all) lists → (next, answer) ≡ section_done users the_section all first
-unfolding after_one
-ends_here users the_section all first leading i statement lists next code answer lt is done ending so_far =
-    let found = is_ending (ends (child_of the_section code)) (ending_code (child_of the_section code)) answer ending in
-    ap (λ c. (next, c)) (sym found.1) ∙ sym (step users the_section leading all i statement lists next code true lt is done found.0) ∙ so_far
+  pub decided_later : (server : List ℕ) (verdict : Verdict) (s0 s1 s2 : Scope) (w0 w1 w2 : WorldState) → Reaches s0 w0 (authorized policies dict server) s1 w1 (λ s. (s, None))
+      → Reaches s1 w1 (authenticated policies dict server) s2 w2 (λ s. (s, verdict)) → Reaches s0 w0 (decided policies dict server) s2 w2 (λ s. (s, verdict))
+  decided_later server verdict s0 s1 s2 w0 w1 w2 first second =
+      reaches_joined s0 s1 s2 w0 w1 w2 (decided policies dict server) (authenticated policies dict server) (λ s. (s, verdict))
+      (behind_authorize server s0 s1 w0 w1 None first) second
 
--- behind another child the section goes on
-pub goes_on_here : (users : List Entry) (the_section : Section) (all : List Statement) (first : PairLists) (leading : Option Child) (i : ℕ) (statement : Statement) (lists next : PairLists) (code : Code)
-    → i < length all → statement ≡ get_or all i statement → (next, code) ≡ statement_done users the_section statement lists → ended_by (child_of the_section code) ≡ None
-    → EndsAs users the_section all first leading (drop i all) lists → EndsAs users the_section all first (Some (heavier_of leading (child_of the_section code))) (drop (i + 1) all) next
-unfolding after_one
-goes_on_here users the_section all first leading i statement lists next code lt is done on so_far =
-    sym (step users the_section leading all i statement lists next code false lt is done (is_going_on (ends (child_of the_section code)) (ending_code (child_of the_section code)) on)) ∙ so_far
+pub if_ok : {T E : Type 0} {P Q : T → Type 0} (result : Result T E) → ((value : T) → P value → Q value) → IfOk result P → IfOk result Q
+if_ok (Ok value) more p = more value p
+if_ok (Err fault) more p = tt
 
--- behind the last statement the heaviest child gives the code, and the section's own where there was none
-at_end : (users : List Entry) (the_section : Section) (all : List Statement) (first : PairLists) (leading : Option Child) (i : ℕ) (lists : PairLists)
-    → length all ≤ i → EndsAs users the_section all first leading (drop i all) lists → ended_with the_section leading (lists, []) ≡ section_done users the_section all first
-unfolding run_of
-at_end users the_section all first leading i lists le so_far =
-    sym (ap (λ rest. ended_with the_section leading (run_of users the_section rest lists)) (drop_all i all le)) ∙ so_far
+-- the same of what was answered
+pub ready_behind_ok : {E : Type 0} (policies : Policies) (dict : Definitions) (id : SectionId) (s0 s1 : Scope) (w0 w1 : WorldState) (result : Result Code E) → IfOk result (λ answer. Reaches s0 w0 (done_in policies dict id) s1 w1 (λ s. (s, answer))) → IsReady s0 w0 → OnOk result (IsReady s1 w1)
+ready_behind_ok policies dict id s0 s1 w0 w1 (Ok answer) reached ready = ready_behind policies dict id s0 s1 w0 w1 answer reached ready
+ready_behind_ok policies dict id s0 s1 w0 w1 (Err fault) reached ready = tt
 
-pub ends_with : (users : List Entry) (the_section : Section) (all : List Statement) (first : PairLists) (leading : Option Child) (child : Child) (i : ℕ) (lists : PairLists)
-    → length all ≤ i → leading ≡ Some child → EndsAs users the_section all first leading (drop i all) lists → (lists, child.code) ≡ section_done users the_section all first
-unfolding ended_with
-ends_with users the_section all first leading child i lists le is so_far =
-    sym (ap (λ l. ended_with the_section l (lists, [])) is) ∙ at_end users the_section all first leading i lists le so_far
+-- authorize decided already, or authenticate decides
+pub decided_now : (policies : Policies) (dict : Definitions) (server : List ℕ) (s0 s1 : Scope) (w0 w1 : WorldState) (so_far : Option Verdict) (verdict : Verdict) → false ≡ is_none so_far → verdict ≡ settled so_far
+    → Reaches s0 w0 (authorized policies dict server) s1 w1 (λ s. (s, so_far)) → Reaches s0 w0 (decided policies dict server) s1 w1 (λ s. (s, verdict))
+decided_now policies dict server s0 s1 w0 w1 None verdict is same reached = absurd (cc)
+decided_now policies dict server s0 s1 w0 w1 (Some answer) verdict is same reached =
+    subst (λ (v : Verdict). Reaches s0 w0 (decided policies dict server) s1 w1 (λ s. (s, v))) (sym same) (decided_at_once policies dict server answer s0 s1 w0 w1 reached)
 
-pub ends_by_default : (users : List Entry) (the_section : Section) (all : List Statement) (first : PairLists) (leading : Option Child) (i : ℕ) (lists : PairLists)
-    → length all ≤ i → leading ≡ None → EndsAs users the_section all first leading (drop i all) lists → (lists, default_code the_section) ≡ section_done users the_section all first
-unfolding ended_with
-ends_by_default users the_section all first leading i lists le is so_far =
-    sym (ap (λ l. ended_with the_section l (lists, [])) is) ∙ at_end users the_section all first leading i lists le so_far
+pub decided_then : {E : Type 0} (policies : Policies) (dict : Definitions) (server : List ℕ) (s0 s1 s2 : Scope) (w0 w1 w2 : WorldState) (so_far : Option Verdict) (result : Result Verdict E) → true ≡ is_none so_far
+    → Reaches s0 w0 (authorized policies dict server) s1 w1 (λ s. (s, so_far))
+    → IfOk result (λ verdict. Reaches s1 w1 (authenticated policies dict server) s2 w2 (λ s. (s, verdict))) → IfOk result (λ verdict. Reaches s0 w0 (decided policies dict server) s2 w2 (λ s. (s, verdict)))
+decided_then policies dict server s0 s1 s2 w0 w1 w2 None result is first second = if_ok result (λ verdict later. decided_later policies dict server verdict s0 s1 s2 w0 w1 w2 first later) second
+decided_then policies dict server s0 s1 s2 w0 w1 w2 (Some answer) result is first second = absurd (cc)
+
+-- an Auth-Type that leads to a verdict
+pub by_verdict_of : {x : Verdict} (policies : Policies) (dict : Definitions) (server : List ℕ) (route : Result SectionId Verdict) (verdict : Verdict) (s0 : Scope) (w0 : WorldState)
+    → route ≡ route_of policies.table server (first_text auth_type s0.lists.control) → route ≡ Err x → verdict ≡ verdict_by route
+    → Reaches s0 w0 (authenticated policies dict server) s0 w0 (λ s. (s, verdict))
+by_verdict_of {x = x} policies dict server route verdict s0 w0 leads is same =
+    subst (λ (v : Verdict). Reaches s0 w0 (authenticated policies dict server) s0 w0 (λ s. (s, v))) (sym (same ∙ ap verdict_by is))
+    (by_verdict policies dict server x s0 w0 (sym leads ∙ is))

@@ -8,7 +8,8 @@ use Rattle.rad_site.specs.declared.fault.BuildFault.{BuildFault}
 use Rattle.rad_site.specs.Site.{Site}
 use Rattle.rad_site.specs.Nodes.{◌>>=◌}
 use Rattle.rad_site.specs.Sources.{FindsIn}
-use Rattle.rad_site.specs.Built.{clients_in, modules_in, site_behind, site_of}
+use Rattle.rad_site.specs.ModulesBlock.{modules_in}
+use Rattle.rad_site.specs.Built.{clients_in, site_behind, site_of}
 use Rattle.rad_site.proofs.Finding.{FindsIn-same}
 
 pub behind_clients : (folder : List ℕ) (dict : Definitions) (nodes : List Node) (clients : List Client) (answer : Result Site BuildFault) (a b : Option FilesTold) → clients_in nodes ≡ Ok clients

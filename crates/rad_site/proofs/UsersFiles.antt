@@ -1,13 +1,13 @@
 -- The users of a file that was read.
 use Rattle.std.specs.Str.{is_utf8}
-use Rattle.std.proofs.Common.{◌≡◌, ℕ, true, cond, List, Option, Some, None, Result, sym, ap, subst, ◌∙◌}
+use Rattle.std.proofs.Common.{◌≡◌, ℕ, true, cond, codes, List, Option, Some, None, Result, sym, ap, subst, ◌∙◌}
 use Rattle.rad_outside.specs.declared.files.Place.{Place}
 use Rattle.rad_outside.specs.Files.{FilesTold, octets_at}
 use Rattle.rad_outside.specs.Telling.{Tells}
 use Rattle.rad_dict.specs.Definitions.{Definitions}
 use Rattle.mod_files.specs.declared.entry.Entry.{Entry}
 use Rattle.rad_site.specs.declared.fault.BuildFault.{BuildFault}
-use Rattle.rad_site.specs.Nodes.{Gives, refused}
+use Rattle.rad_site.specs.Nodes.{Gives, bad_setting}
 use Rattle.rad_site.specs.Sources.{Finds, FindsIn}
 use Rattle.rad_site.specs.ModulesBlock.{file_path, users_in, users_at}
 use Rattle.rad_site.proofs.Finding.{Finds-pure}
@@ -22,5 +22,5 @@ found_bytes folder dict place name path text answer (Some before) (Some now) utf
   found : Finds answer (users_at (record { files = before.present; folder = folder }) dict place name)
   found = subst (λ r. Finds answer r)
       (ap (users_in dict place name) (sym (sym (ap (λ p. octets_at p before.present) is) ∙ read.1))
-      ∙ ap (λ b. cond b (users_in dict place name (octets_at (file_path folder name) before.present)) (refused place)) (sym utf8))
+      ∙ ap (λ b. cond b (users_in dict place name (octets_at (file_path folder name) before.present)) (bad_setting place (codes "filename"))) (sym utf8))
       (Finds-pure answer (users_in dict place name (Some text)) gives)

@@ -1,19 +1,27 @@
 -- What becomes of an access request, from section to section. This project's own, after FreeRADIUS.
-use Rattle.std.specs.Prelude.{ℕ, Bool, List, [], ◌∷◌, Option, Some, None, Result, Ok, Err, ok_or, codes, find, filter, if◌then◌else◌}
+use Rattle.std.specs.Prelude.{ℕ, ◌≡◌, true, Bool, List, [], ◌∷◌, Option, Some, None, Result, Ok, Err, IsSome, ok_or, codes, filter, if◌then◌else◌}
+use Rattle.std.specs.Option.{option_and_then, is_some}
 use Rattle.std.specs.Str.{str_eq_ignore_ascii_case}
+use Rattle.rad_outside.specs.Moments.{IsInTime}
 use Rattle.rad_words.specs.declared.codes.Code.{Code}
 use Rattle.rad_words.specs.declared.codes.Code.TheVariants as code
+use Rattle.rad_words.specs.declared.sections.Section.{Section}
 use Rattle.rad_words.specs.declared.sections.Section.TheVariants.{Authorize, Authenticate}
+use Rattle.rad_value.specs.declared.scope.Scope.{Scope}
 use Rattle.rad_value.specs.declared.values.Pair.{Pair}
 use Rattle.rad_value.specs.Pairs.{is_of, first_text}
-use Rattle.rad_value.specs.PairLists.{PairLists}
-use Rattle.mod_files.specs.declared.entry.Entry.{Entry}
-use Rattle.rad_site.specs.declared.statement.Statement.{Statement}
-use Rattle.rad_site.specs.declared.statement.Subsection.{Subsection}
+use Rattle.rad_dict.specs.Definitions.{Definitions}
+use Rattle.rad_world.specs.World.{WorldState}
+use Rattle.mod_base.specs.Situation.{Situation}
+use Rattle.unlang_tree.specs.declared.policies.ServerTree.{ServerTree}
+use Rattle.unlang_code.specs.declared.section_id.SectionId.{SectionId}
+use Rattle.unlang_code.specs.Sections.{server_of, found, statements_of}
+use Rattle.unlang_code.specs.Run.{section_of}
 use Rattle.rad_site.specs.declared.verdict.Verdict.{Verdict}
 use Rattle.rad_site.specs.declared.verdict.Verdict.TheVariants as verdict
 use Rattle.rad_site.specs.Attributes.{auth_type, reply_message}
-use Rattle.rad_site.specs.Run.{section_done}
+use Rattle.rad_site.specs.SiteModules.{site_module}
+use Rattle.rad_site.specs.Policies.{Policies}
 
 -- What authorize decides by its code: none where the request goes on.
 abbrev pub after_authorize : Code → Option Verdict
@@ -39,44 +47,70 @@ after_authenticate code.Notfound = verdict.Reject
 after_authenticate code.Noop = verdict.Reject
 after_authenticate code.Updated = verdict.Reject
 
--- Whether a subsection has this name, in any case of its ASCII letters.
-abbrev pub is_named : List ℕ → Subsection → Bool
-is_named name subsection = str_eq_ignore_ascii_case subsection.name name
+-- Whether there is a server of this name.
+abbrev pub has_server : List ServerTree → List ℕ → Bool
+has_server table name = is_some (server_of table name)
 
--- The subsection of authenticate of this name.
-abbrev pub subsection_of : List ℕ → List Subsection → Option Subsection
-subsection_of name subsections = find (is_named name) subsections
+-- The section of a kind in the server of a name, or its subsection of a name.
+unfoldable pub section_named : List ServerTree → List ℕ → Section → Option (List ℕ) → Option SectionId
+section_named table server kind sub = option_and_then (λ (number : ℕ). found table number kind sub) (server_of table server)
+
+-- The section is one of the table's.
+abbrev pub HasStatements : List ServerTree → SectionId → Type 0
+HasStatements table id = IsSome (statements_of table id)
 
 -- Where an Auth-Type leads: `Accept` accepts and `Reject` rejects, in any case of their ASCII letters; another name
--- leads through its subsection. Without an Auth-Type, or without that subsection, the request is rejected.
-abbrev pub route_of : Option (List ℕ) → List Subsection → Result Subsection Verdict
-route_of None subsections = Err verdict.Reject
-route_of (Some name) subsections =
+-- leads through the server's subsection of that name. Without an Auth-Type, or without that subsection, the request is
+-- rejected.
+abbrev pub route_of : List ServerTree → List ℕ → Option (List ℕ) → Result SectionId Verdict
+route_of table server None = Err verdict.Reject
+route_of table server (Some name) =
     if str_eq_ignore_ascii_case name (codes "Accept") then Err verdict.Accept
     else (if str_eq_ignore_ascii_case name (codes "Reject") then Err verdict.Reject
-    else ok_or (subsection_of name subsections) verdict.Reject)
+    else ok_or (section_named table server Authenticate (Some name)) verdict.Reject)
 
--- What is decided there, by the code of the subsection.
-abbrev pub decided_there : List Entry → Result Subsection Verdict → PairLists → PairLists × Verdict
-decided_there users (Err verdict) lists = (lists, verdict)
-decided_there users (Ok subsection) lists =
-    let done = section_done users Authenticate subsection.statements lists in (done.0, after_authenticate done.1)
+-- The verdict to which an Auth-Type leads, and reject where it leads through a subsection, which decides then.
+abbrev pub verdict_by : Result SectionId Verdict → Verdict
+verdict_by (Ok id) = verdict.Reject
+verdict_by (Err verdict) = verdict
+
+-- What is decided already, and reject where nothing is.
+abbrev pub settled : Option Verdict → Verdict
+settled None = verdict.Reject
+settled (Some verdict) = verdict
+
+-- The situation after a section, and its code.
+abbrev pub done_in : Policies → Definitions → SectionId → Situation → Situation × Code
+done_in policies dict id = section_of site_module policies.stack dict policies.table id
+
+-- What is decided by authorize, where the server has it: without it the request goes on.
+abbrev pub authorized_by : Policies → Definitions → Option SectionId → Situation → Situation × Option Verdict
+authorized_by policies dict None s = (s, None)
+authorized_by policies dict (Some id) s = let done = done_in policies dict id s in (done.0, after_authorize done.1)
+
+abbrev pub authorized : Policies → Definitions → List ℕ → Situation → Situation × Option Verdict
+authorized policies dict server s = authorized_by policies dict (section_named policies.table server Authorize None) s
+
+-- What is decided where an Auth-Type leads, by the code of the subsection.
+abbrev pub decided_there : Policies → Definitions → Result SectionId Verdict → Situation → Situation × Verdict
+decided_there policies dict (Err verdict) s = (s, verdict)
+decided_there policies dict (Ok id) s = let done = done_in policies dict id s in (done.0, after_authenticate done.1)
 
 -- The first Auth-Type of the control list decides.
-abbrev pub authenticated : List Entry → List Subsection → PairLists → PairLists × Verdict
-authenticated users subsections lists = decided_there users (route_of (first_text auth_type lists.control) subsections) lists
+abbrev pub authenticated : Policies → Definitions → List ℕ → Situation → Situation × Verdict
+authenticated policies dict server s =
+    decided_there policies dict (route_of policies.table server (first_text auth_type s.scope.lists.control)) s
 
 -- What is decided behind authorize.
-abbrev pub decided_behind : List Entry → List Subsection → Option Verdict → PairLists → PairLists × Verdict
-decided_behind users subsections (Some verdict) lists = (lists, verdict)
-decided_behind users subsections None lists = authenticated users subsections lists
+abbrev pub decided_behind : Policies → Definitions → List ℕ → Option Verdict → Situation → Situation × Verdict
+decided_behind policies dict server (Some verdict) s = (s, verdict)
+decided_behind policies dict server None s = authenticated policies dict server s
 
--- The lists at the end of a request, and what became of it: authorize runs, and then authenticate where the request
--- goes on.
-unfoldable pub decided : List Entry → List Statement → List Subsection → PairLists → PairLists × Verdict
-decided users authorize subsections lists =
-    let done = section_done users Authorize authorize lists in
-    decided_behind users subsections (after_authorize done.1) done.0
+-- The situation at the end of a request to a server, and what became of it: authorize runs, and then authenticate where
+-- the request goes on.
+unfoldable pub decided : Policies → Definitions → List ℕ → Situation → Situation × Verdict
+decided policies dict server s =
+    let done = authorized policies dict server s in decided_behind policies dict server done.1 done.0
 
 -- What a rejected request keeps of a pair, in a list.
 abbrev pub kept_of : Pair → List Pair
@@ -85,3 +119,8 @@ kept_of pair = if is_of reply_message pair then pair ∷ [] else []
 -- The pairs that a rejected request keeps for its reply: Reply-Message alone.
 abbrev pub kept : List Pair → List Pair
 kept pairs = filter (is_of reply_message) pairs
+
+-- A section may be run: its moment is in time, and its world takes changes.
+pub record IsReady (scope : Scope) (world : WorldState) : Type 0 where
+  pub in_time : IsInTime scope.moment
+  pub changes : world.takes_changes ≡ true

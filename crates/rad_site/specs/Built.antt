@@ -1,8 +1,8 @@
 -- What a site's folder is built to: a generation, or the first fault. The file is after the manual page radiusd.conf(5);
 -- which items are built is this project's own.
-use Rattle.std.specs.Prelude.{◌≡◌, ℕ, Bool, [], ◌∷◌, ◌++◌, ◌||◌, List, length, nat_le, Option, Some, None, unwrap_or, Result, Ok, codes, if◌then◌else◌}
+use Rattle.std.specs.Prelude.{ℕ, Bool, [], ◌∷◌, ◌++◌, ◌||◌, List, length, nat_le, Some, None, Result, Ok, codes, if◌then◌else◌}
 use Rattle.std.specs.Option.{is_some}
-use Rattle.std.specs.List.{find, filter}
+use Rattle.std.specs.List.{find}
 use Rattle.rad_outside.specs.declared.files.Place.{Place}
 use Rattle.rad_outside.specs.Files.{octets_at}
 use Rattle.rad_dict.specs.Definitions.{Definitions}
@@ -13,17 +13,20 @@ use Rattle.rad_conf.specs.Conf.{conf_at, path_of}
 use Rattle.rad_policy.specs.Policy.{Sources}
 use Rattle.rad_packet.specs.declared.client.Client.{Client}
 use Rattle.rad_clients.specs.Networks.{is_of}
-use Rattle.rad_site.specs.declared.build.modules.Modules.{Modules}
-use Rattle.rad_site.specs.declared.build.server.Server.{Server}
+use Rattle.unlang_tree.specs.Policies.{policies_of}
+use Rattle.rad_site.specs.declared.build.servers.Listener.{Listener}
 use Rattle.rad_site.specs.declared.fault.BuildFault.{BuildFault}
 use Rattle.rad_site.specs.Site.{Site}
-use Rattle.rad_site.specs.Nodes.{◌>>=◌, refused, bad_setting, one_of, after_each}
+use Rattle.rad_site.specs.Nodes.{◌>>=◌, refused, bad_setting, formed, after_each}
 use Rattle.rad_site.specs.Items.{is_block}
 use Rattle.rad_site.specs.ConfFault.{of_conf}
 use Rattle.rad_site.specs.DictFault.{of_dict}
 use Rattle.rad_site.specs.ClientBlock.{client_at}
-use Rattle.rad_site.specs.ModulesBlock.{no_modules, modules_at}
-use Rattle.rad_site.specs.ServerBlock.{server_at}
+use Rattle.rad_site.specs.TreeFault.{of_tree}
+use Rattle.rad_site.specs.Modules.{Modules}
+use Rattle.rad_site.specs.ModulesBlock.{modules_in}
+use Rattle.rad_site.specs.ServerBlocks.{servers_in}
+use Rattle.rad_site.specs.Policies.{Policies}
 
 -- The configuration's file, and the place that stands for it as a whole.
 abbrev pub conf_name : List ℕ
@@ -45,26 +48,13 @@ most_clients = 4096
 abbrev pub is_client : Node → Bool
 is_client = is_block (codes "client")
 
--- A block of a virtual server.
-abbrev pub is_server : Node → Bool
-is_server = is_block (codes "server")
-
--- A block of modules.
-abbrev pub is_modules : Node → Bool
-is_modules = is_block (codes "modules")
-
--- Blocks at the top that aren't built and would change what the site means: realms, policies and the control wire.
+-- Blocks at the top that aren't built and would change what the site means: realms and the control wire.
 abbrev pub is_unbuilt : Node → Bool
-is_unbuilt node = is_block (codes "realm") node || is_block (codes "policy") node || is_block (codes "control") node
+is_unbuilt node = is_block (codes "realm") node || is_block (codes "control") node
 
 -- At the top stands no block that isn't built. Other settings and blocks are passed over.
 abbrev pub none_unbuilt : List Node → Result (Unit {0}) BuildFault
 none_unbuilt nodes = elim (find is_unbuilt nodes) [ None ↦ Ok tt | Some node ↦ refused node.place ]
-
--- The first node of a list for which a test holds, and the nodes behind it.
-abbrev pub IsFirst : (Node → Bool) → List Node → Option (Node × List Node) → Type 0
-IsFirst test nodes None = filter test nodes ≡ []
-IsFirst test nodes (Some found) = filter test nodes ≡ found.0 ∷ filter test found.1
 
 -- The clients with one more. Another one of the same network, or one beyond the most, is refused by its name.
 unfoldable pub with_client : List Client → Node → Result (List Client) BuildFault
@@ -82,33 +72,35 @@ clients_in nodes = do
   all_built ← none_unbuilt nodes
   after_each with_item [] nodes
 
--- The modules, which may be missing.
-unfoldable pub modules_in : Sources → Definitions → List Node → Result Modules BuildFault
-modules_in sources dict nodes = one_of (Ok no_modules) (modules_at sources dict) (filter is_modules nodes)
+-- The policies of a configuration with these modules: the sections of its servers, whose calls are of them.
+unfoldable pub policies_in : Definitions → Modules → List Node → Result Policies BuildFault
+policies_in dict modules nodes = of_tree (policies_of nodes dict modules.instances) >>= λ table. Ok (record { stack = modules.stack; table = table })
 
--- The site with this dictionary, these clients, these modules and this server.
-abbrev pub site_with : Definitions → List Client → Modules → Server → Site
-site_with dict clients modules server = record {
+-- The site with this dictionary, these clients, these policies and this listener.
+abbrev pub site_with : Definitions → List Client → Policies × Listener → Site
+site_with dict clients parts = record {
   dict = dict;
   clients = clients;
-  users = unwrap_or modules.users [];
-  server = server.name;
-  at = server.at;
-  authorize = server.authorize;
-  authenticate = server.authenticate;
+  policies = parts.0;
+  server = parts.1.server;
+  at = parts.1.at;
 }
 
--- The one server of the configuration. Without a server there is no listener.
-abbrev pub server_in : Modules → List Node → Result Server BuildFault
-server_in modules nodes = one_of (bad_setting whole_conf (codes "listen")) (server_at modules) (filter is_server nodes)
+-- The policies of a configuration with these modules, and its listener: first the servers' own settings, then what stands in
+-- their sections. A configuration without a listener is refused last of all.
+unfoldable pub parts_in : Definitions → Modules → List Node → Result (Policies × Listener) BuildFault
+parts_in dict modules nodes = do
+  servers ← servers_in nodes
+  policies ← policies_in dict modules nodes
+  listener ← formed whole_conf (codes "listen") servers.listener
+  Ok (policies, listener)
 
--- The site with the one server of the configuration.
+-- The site behind its modules.
 unfoldable pub site_behind : Definitions → List Client → Modules → List Node → Result Site BuildFault
-site_behind dict clients modules nodes = do
-  server ← server_in modules nodes
-  Ok (site_with dict clients modules server)
+site_behind dict clients modules nodes = parts_in dict modules nodes >>= λ parts. Ok (site_with dict clients parts)
 
--- The site of a whole configuration with this dictionary: its clients, modules, which may be missing, and one server.
+-- The site of a whole configuration with this dictionary: its clients, its modules with their files, and its servers with
+-- their policies.
 unfoldable pub site_of : Sources → Definitions → List Node → Result Site BuildFault
 site_of sources dict nodes = do
   clients ← clients_in nodes

@@ -8,8 +8,8 @@ use Rattle.rad_dict.specs.declared.fault.DictFault.{DictFault}
 use Rattle.rad_dict.specs.declared.fault.DictFault.TheVariants as dict
 use Rattle.mod_files.specs.declared.fault.UsersFault.{UsersFault}
 use Rattle.mod_files.specs.declared.fault.UsersFault.TheVariants as users
-use Rattle.rad_site.specs.declared.fault.TreeFault.{TreeFault}
-use Rattle.rad_site.specs.declared.fault.TreeFault.TheVariants as tree
+use Rattle.unlang_tree.specs.declared.fault.TreeFault.{TreeFault}
+use Rattle.unlang_tree.specs.declared.fault.TreeFault.TheVariants as tree
 use Rattle.rad_site.specs.declared.fault.BuildFault.{BuildFault}
 use Rattle.rad_site.specs.declared.fault.BuildFault.TheVariants as fault
 
@@ -37,8 +37,19 @@ conf_fault_text (conf.TooLong place) = placed_text place (codes "TooLong")
 conf_fault_text conf.ReadFault = read_fault_text
 conf_fault_text conf.NoMemory = memory_text
 
--- A fault of a section: its place and its reason.
+-- A fault of a section: its place, its reason, and its word where it has one.
 abbrev pub tree_fault_text : TreeFault → List ℕ
+tree_fault_text (tree.UnknownModule place word) = placed_text place (codes "UnknownModule " ++ word)
+tree_fault_text (tree.NoSuchMethod place) = placed_text place (codes "NoSuchMethod")
+tree_fault_text (tree.UnknownKeyword place) = placed_text place (codes "UnknownKeyword")
+tree_fault_text (tree.BadAction place) = placed_text place (codes "BadAction")
+tree_fault_text (tree.BadUpdate place) = placed_text place (codes "BadUpdate")
+tree_fault_text (tree.BadCondition place) = placed_text place (codes "BadCondition")
+tree_fault_text (tree.BadPattern place) = placed_text place (codes "BadPattern")
+tree_fault_text (tree.BadExpansion place) = placed_text place (codes "BadExpansion")
+tree_fault_text (tree.PolicyLoop place) = placed_text place (codes "PolicyLoop")
+tree_fault_text (tree.TooDeep place) = placed_text place (codes "TooDeep")
+tree_fault_text (tree.TooMany place) = placed_text place (codes "TooMany")
 tree_fault_text (tree.NotBuilt place) = placed_text place (codes "NotBuilt")
 tree_fault_text tree.NoMemory = memory_text
 
@@ -64,6 +75,7 @@ fault_text (fault.Conf wrong) = conf_fault_text wrong
 fault_text (fault.Dict wrong) = dict_fault_text wrong
 fault_text (fault.Users file wrong) = users_fault_text file wrong
 fault_text (fault.Tree wrong) = tree_fault_text wrong
+fault_text (fault.UnknownModule place kind) = placed_text place (codes "UnknownModule " ++ kind)
 fault_text (fault.BadSetting place name) = placed_text place (codes "BadSetting " ++ name)
 fault_text fault.ReadFault = read_fault_text
 fault_text fault.NoMemory = memory_text

@@ -1,22 +1,29 @@
--- The modules of a site, `modules { files { filename = NAME } pap { } }`, and the users file that they name. After the
--- manual pages radiusd.conf(5), rlm_files(5) and rlm_pap(5).
-use Rattle.std.specs.Prelude.{ℕ, Bool, true, false, not, ◌&&◌, ◌==◌, List, [], ◌∷◌, length, nat_lt, slice_index, Option, Some, None, Result, Ok, Err, codes, if◌then◌else◌}
-use Rattle.std.specs.Option.{is_none}
+-- The modules of a site, `modules { kind [name] { settings } }`, and the files that they name. After the manual pages
+-- radiusd.conf(5), rlm_always(5), rlm_files(5) and rlm_pap(5).
+use Rattle.std.specs.Prelude.{ℕ, Bool, ◌==◌, List, [], ◌∷◌, length, nat_lt, slice_index, Option, Some, None, Result, Ok, Err, codes, if◌then◌else◌}
+use Rattle.std.specs.List.{list_any}
+use Rattle.std.specs.Option.{option_and_then}
 use Rattle.std.specs.Str.{bytes_eq, is_utf8}
 use Rattle.rad_outside.specs.declared.files.Place.{Place}
 use Rattle.rad_outside.specs.Files.{octets_at}
 use Rattle.rad_dict.specs.Definitions.{Definitions}
+use Rattle.rad_words.specs.declared.codes.Code.{Code}
 use Rattle.rad_conf.specs.declared.tree.Node.{Node}
+use Rattle.rad_conf.specs.declared.tree.Item.{out-Item}
+use Rattle.rad_conf.specs.declared.tree.Item.TheOpen as level
 use Rattle.rad_conf.specs.Conf.{path_of}
 use Rattle.rad_policy.specs.Policy.{Sources}
 use Rattle.mod_files.specs.declared.entry.Entry.{Entry}
 use Rattle.mod_files.specs.declared.fault.UsersFault.{UsersFault}
 use Rattle.mod_files.specs.Entries.{users_of}
-use Rattle.rad_site.specs.declared.build.modules.Modules.{Modules}
 use Rattle.rad_site.specs.declared.fault.BuildFault.{BuildFault}
 use Rattle.rad_site.specs.declared.fault.BuildFault.TheVariants as fault
-use Rattle.rad_site.specs.Nodes.{◌>>=◌, refused, needed, only, after_each}
-use Rattle.rad_site.specs.Items.{has_expansion, setting_of, plain_block}
+use Rattle.rad_site.specs.declared.site_module.SiteModule.{SiteModule}
+use Rattle.rad_site.specs.declared.site_module.SiteModule.TheVariants as site
+use Rattle.rad_site.specs.Codes.{code_named}
+use Rattle.rad_site.specs.Nodes.{◌>>=◌, refused, bad_setting, formed, after_each}
+use Rattle.rad_site.specs.Items.{setting_of, pair_named, nodes_of}
+use Rattle.rad_site.specs.Modules.{Modules, no_modules, is_taken, has_room, and_module, with_codes}
 
 -- The path of a file that a setting names: below the site's folder, or as it stands where it begins with `/`.
 abbrev pub file_path : List ℕ → List ℕ → List ℕ
@@ -29,69 +36,101 @@ of_users name (Err wrong) = Err (fault.Users name wrong)
 
 -- The users of a file's octets. One that is missing or has more than 4 MiB is refused at the setting.
 abbrev pub users_in : Definitions → Place → List ℕ → Option (List ℕ) → Result (List Entry) BuildFault
-users_in dict place name None = refused place
-users_in dict place name (Some text) = if nat_lt 4194304 (length text) then refused place else of_users name (users_of text dict)
+users_in dict place name None = bad_setting place (codes "filename")
+users_in dict place name (Some text) = if nat_lt 4194304 (length text) then bad_setting place (codes "filename") else of_users name (users_of text dict)
 
 -- The users of the file of a name, which is UTF-8.
 unfoldable pub users_at : Sources → Definitions → Place → List ℕ → Result (List Entry) BuildFault
 users_at sources dict place name =
-    if is_utf8 name then users_in dict place name (octets_at (file_path sources.folder name) sources.files) else refused place
+    if is_utf8 name then users_in dict place name (octets_at (file_path sources.folder name) sources.files) else bad_setting place (codes "filename")
 
--- The users of the setting `filename = NAME`. Expansions in it aren't built.
-abbrev pub filename_at : Sources → Definitions → Node → Result (List Entry) BuildFault
+-- The users of the setting `filename = NAME`.
+unfoldable pub filename_at : Sources → Definitions → Node → Result (List Entry) BuildFault
 filename_at sources dict node = elim (setting_of node) [
-  | None ↦ refused node.place
-  | Some setting ↦ if bytes_eq setting.0 (codes "filename") && not (has_expansion setting.1) then users_at sources dict node.place setting.1 else refused node.place
+  | None ↦ bad_setting node.place (codes "filename")
+  | Some setting ↦ users_at sources dict node.place setting.1
 ]
 
--- Before the first module a site has none.
-abbrev pub no_modules : Modules
-no_modules = record { users = None; pap = false }
+-- The users of the first setting `filename` of a block at this place.
+unfoldable pub users_by : Sources → Definitions → Place → Option Node → Result (List Entry) BuildFault
+users_by sources dict place None = bad_setting place (codes "filename")
+users_by sources dict place (Some node) = filename_at sources dict node
 
--- A block without items. The first item is refused.
-abbrev pub no_items : List Node → Result (Unit {0}) BuildFault
-no_items [] = Ok tt
-no_items (node ∷ nodes) = refused node.place
+-- The return code of the setting `rcode = CODE`.
+abbrev pub rcode_at : Node → Option Code
+rcode_at node = option_and_then (λ (setting : List ℕ × List ℕ). code_named setting.1) (setting_of node)
 
--- What was read of an item behind which no other stands.
-abbrev pub alone : {A : Type 0} → A → List Node → Result A BuildFault
-alone read others = no_items others >>= λ empty. Ok read
+-- The module of the first setting `rcode` of a block at this place.
+unfoldable pub always_by : Place → Option Node → Result SiteModule BuildFault
+always_by place None = bad_setting place (codes "rcode")
+always_by place (Some node) = formed node.place (codes "rcode") (rcode_at node) >>= λ code. Ok (site.Always (record { code = code }))
 
--- A block of this kind is the first of `files`, or of `pap`.
-abbrev pub is_first_files : List ℕ → Modules → Bool
-is_first_files kind known = bytes_eq kind (codes "files") && is_none known.users
+-- The kinds of modules that aren't built yet.
+abbrev pub later_kinds : List (List ℕ)
+later_kinds = codes "realm" ∷ codes "attr_filter" ∷ codes "detail" ∷ codes "radutmp" ∷ []
 
--- A block of pap where none stood before.
-abbrev pub is_first_pap : List ℕ → Modules → Bool
-is_first_pap kind known = bytes_eq kind (codes "pap") && not known.pap
+-- Whether a kind isn't built yet.
+abbrev pub is_later : List ℕ → Bool
+is_later kind = list_any (bytes_eq kind) later_kinds
 
--- The modules with `files`, whose block has one setting, and with `pap`, whose block has none.
-abbrev pub with_files : Sources → Definitions → Modules → Place → List Node → Result Modules BuildFault
-with_files sources dict known place items = do
-  users ← only place (filename_at sources dict) items
-  Ok (record known { users = Some users })
+-- The module of a kind that reads no file, by the name of its instance and the items of its block.
+unfoldable pub plain_module : Place → List ℕ → List ℕ → List Node → Result SiteModule BuildFault
+plain_module place kind name items =
+    if bytes_eq kind (codes "always") then always_by place (pair_named (codes "rcode") items)
+    else (if bytes_eq kind (codes "pap") then Ok (site.Pap (record { name = name }))
+    else (if bytes_eq kind (codes "chap") then Ok (site.Chap (record { name = name }))
+    else (if is_later kind then refused place
+    else Err (fault.UnknownModule place kind))))
 
--- The modules with pap, whose block has no settings.
-abbrev pub with_pap : Modules → List Node → Result Modules BuildFault
-with_pap known items = do
-  empty ← no_items items
-  Ok (record known { pap = true })
+-- The module `files` of these users. A setting `key` isn't built yet.
+unfoldable pub files_with : Option Node → List Entry → Result SiteModule BuildFault
+files_with None users = Ok (site.Files (record { users = users }))
+files_with (Some node) users = refused node.place
 
--- The modules with that of a block.
-unfoldable pub with_block : Sources → Definitions → Modules → Place → List ℕ × List Node → Result Modules BuildFault
-with_block sources dict known place block =
-    if is_first_files block.0 known then with_files sources dict known place block.1
-    else (if is_first_pap block.0 known then with_pap known block.1 else refused place)
+-- The module `files`.
+abbrev pub files_module : Sources → Definitions → Place → List Node → Result SiteModule BuildFault
+files_module sources dict place items = users_by sources dict place (pair_named (codes "filename") items) >>= files_with (pair_named (codes "key") items)
 
--- The modules with one more, which is a block that wasn't known yet.
+-- A block of this kind is of `files`.
+abbrev pub is_files : List ℕ → Bool
+is_files kind = bytes_eq kind (codes "files")
+
+-- The module of a block.
+unfoldable pub module_of : Sources → Definitions → Place → List ℕ → List ℕ → List Node → Result SiteModule BuildFault
+module_of sources dict place kind name items =
+    if is_files kind then files_module sources dict place items else plain_module place kind name items
+
+-- The modules with one by this name, where there is room for it.
+unfoldable pub and_room : Place → Modules → List ℕ → SiteModule → Result Modules BuildFault
+and_room place known name m = if has_room known name then Ok (and_module known name m) else bad_setting place name
+
+-- The modules with that of a block, whose instance's name isn't taken.
+unfoldable pub with_instance : Sources → Definitions → Modules → Place → List ℕ → List ℕ → List Node → Result Modules BuildFault
+with_instance sources dict known place kind name items =
+    if is_taken known name then bad_setting place name
+    else (module_of sources dict place kind name items >>= λ m. and_room place known name m)
+
+-- The kind, the instance's name and the items of a block of a module: the instance has the name of the block, or else that
+-- of its kind.
+abbrev pub module_block : Node → Option (List ℕ × List ℕ × List Node)
+module_block node = elim (out-Item node.item) [
+  | level.Pair left operator right ↦ None
+  | level.Name word ↦ None
+  | level.Block kind None body ↦ Some (kind.text, kind.text, body)
+  | level.Block kind (Some name) body ↦ Some (kind.text, name.text, body)
+]
+
+-- The modules with one more. What is no block is passed over.
 unfoldable pub with_module : Sources → Definitions → Modules → Node → Result Modules BuildFault
-with_module sources dict known node = elim (plain_block node) [
-  | None ↦ refused node.place
-  | Some block ↦ with_block sources dict known node.place block
+with_module sources dict known node = elim (module_block node) [
+  | None ↦ Ok known
+  | Some block ↦ with_instance sources dict known node.place block.0 block.1 block.2
 ]
 
--- The modules of a block.
-unfoldable pub modules_at : Sources → Definitions → Node → Result Modules BuildFault
-modules_at sources dict node = do
-  block ← needed node.place (plain_block node)
-  after_each (with_module sources dict) no_modules block.1
+-- The modules with those of one more node of the top: of a block `modules`, whatever else is passed over.
+unfoldable pub with_modules : Sources → Definitions → Modules → Node → Result Modules BuildFault
+with_modules sources dict known node = after_each (with_module sources dict) known (nodes_of (codes "modules") node)
+
+-- The modules of a whole configuration: those of its blocks, and those of the return codes.
+unfoldable pub modules_in : Sources → Definitions → List Node → Result Modules BuildFault
+modules_in sources dict nodes = after_each (with_modules sources dict) no_modules nodes >>= λ known. Ok (with_codes known)

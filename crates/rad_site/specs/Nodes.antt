@@ -4,7 +4,7 @@ use Rattle.rad_outside.specs.declared.files.Place.{Place}
 use Rattle.rad_conf.specs.declared.tree.Node.{Node}
 use Rattle.rad_site.specs.declared.fault.BuildFault.{BuildFault}
 use Rattle.rad_site.specs.declared.fault.BuildFault.TheVariants as fault
-use Rattle.rad_site.specs.declared.fault.TreeFault.TheVariants as tree
+use Rattle.unlang_tree.specs.declared.fault.TreeFault.TheVariants as tree
 
 infixl 10 ◌>>=◌
 -- One answer and then the next: the first fault ends it.
@@ -18,6 +18,7 @@ Fails (fault.Conf wrong) read = read ≡ Err (fault.Conf wrong)
 Fails (fault.Dict wrong) read = read ≡ Err (fault.Dict wrong)
 Fails (fault.Users file wrong) read = read ≡ Err (fault.Users file wrong)
 Fails (fault.Tree wrong) read = read ≡ Err (fault.Tree wrong)
+Fails (fault.UnknownModule place kind) read = read ≡ Err (fault.UnknownModule place kind)
 Fails (fault.BadSetting place name) read = read ≡ Err (fault.BadSetting place name)
 Fails fault.ReadFault read = ⊥
 Fails fault.NoMemory read = Unit {0}
@@ -39,31 +40,6 @@ bad_setting place name = Err (fault.BadSetting place name)
 abbrev pub formed : {A : Type 0} → Place → List ℕ → Option A → Result A BuildFault
 formed place name None = bad_setting place name
 formed place name (Some x) = Ok x
-
--- What has to be there is refused at this place where it is missing.
-abbrev pub needed : {A : Type 0} → Place → Option A → Result A BuildFault
-needed place None = refused place
-needed place (Some x) = Ok x
-
--- The one node of a list, as it is read. Where there is none, this is answered; a second one is refused at its place.
-unfoldable pub one_of : {A : Type 0} → Result A BuildFault → (Node → Result A BuildFault) → List Node → Result A BuildFault
-one_of missing read [] = missing
-one_of missing read (node ∷ []) = read node
-one_of missing read (node ∷ second ∷ more) = do
-  first ← read node
-  refused second.place
-
--- The same of a node that has to be there: where it is missing, that is refused at the place around it.
-abbrev pub only : {A : Type 0} → Place → (Node → Result A BuildFault) → List Node → Result A BuildFault
-only place read nodes = one_of (refused place) read nodes
-
--- Each node of a list, as it is read.
-unfoldable pub each : {A : Type 0} → (Node → Result A BuildFault) → List Node → Result (List A) BuildFault
-each read [] = Ok []
-each read (node ∷ nodes) = do
-  first ← read node
-  others ← each read nodes
-  Ok (first ∷ others)
 
 -- What is known of a block after each of its nodes.
 unfoldable pub after_each : {S : Type 0} → (S → Node → Result S BuildFault) → S → List Node → Result S BuildFault

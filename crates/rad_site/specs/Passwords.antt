@@ -1,28 +1,75 @@
--- What a site must have so that passwords alone let requests in, and which request has its user's password. This
--- project's own, after FreeRADIUS' rlm_pap(5) and users(5).
-use Rattle.std.specs.Prelude.{◌≡◌, ℕ, ◌<◌, List, [], ◌∷◌, length, Some, Contains, IsFalse, codes}
+-- What a server must have so that passwords alone let requests in, and where a right one does. This project's own, after
+-- FreeRADIUS' rlm_pap(5).
+use Rattle.std.specs.Prelude.{ℕ, ◌≡◌, Bool, false, ◌&&◌, List, [], ◌∷◌, Option, Some, None, slice_get, codes}
 use Rattle.std.specs.Str.{str_eq_ignore_ascii_case}
-use Rattle.rad_value.specs.PairLists.{PairLists}
-use Rattle.mod_files.specs.declared.entry.Entry.{Entry}
-use Rattle.mod_files.specs.Entries.{entry_of}
-use Rattle.mod_files.specs.Files.{key_of}
-use Rattle.mod_files.specs.Written.{password_item}
-use Rattle.rad_site.specs.declared.statement.Statement.{Statement}
-use Rattle.rad_site.specs.declared.statement.Statement.TheVariants as statement
-use Rattle.rad_site.specs.declared.statement.Subsection.{Subsection}
-use Rattle.rad_site.specs.Pap.{given_password}
+use Rattle.rad_words.specs.Attribute.{same_attr}
+use Rattle.rad_value.specs.declared.edits.Edit.{Edit}
+use Rattle.rad_value.specs.declared.edits.ListName.TheVariants.{Control}
+use Rattle.rad_value.specs.declared.values.Value.{Value}
+use Rattle.rad_value.specs.Pairs.{text_of}
+use Rattle.rad_words.specs.declared.sections.Section.TheVariants.{Authorize, Authenticate}
+use Rattle.mod_auth.specs.declared.pap.Pap.{Pap}
+use Rattle.unlang_tree.specs.declared.statement.Call.{Call}
+use Rattle.unlang_tree.specs.declared.statement.Statement.{Statement}
+use Rattle.unlang_tree.specs.declared.statement.StatementKind.TheVariants as kind
+use Rattle.unlang_code.specs.declared.section_id.SectionId.{SectionId}
+use Rattle.unlang_code.specs.Frames.{same_list}
+use Rattle.unlang_code.specs.Leaves.{Leaf, Calls, Edits, EachLeaf}
+use Rattle.unlang_code.specs.Sections.{statements_of}
+use Rattle.rad_site.specs.declared.site_module.SiteModule.{SiteModule}
+use Rattle.rad_site.specs.declared.site_module.SiteModule.TheVariants as site
+use Rattle.rad_site.specs.Attributes.{auth_type}
+use Rattle.rad_site.specs.FilesModule.{files_edits}
+use Rattle.rad_site.specs.Policies.{Policies}
+use Rattle.rad_site.specs.Access.{section_named}
 
--- Passwords alone let requests in: no statement of authorize sets Auth-Type to `Accept`, in any case, and each subsection
--- of authenticate is `pap` alone.
-pub record ChecksPasswords (authorize : List Statement) (subsections : List Subsection) : Type 0 where
-  pub never_accepts : (name : List ℕ) → Contains authorize (statement.AuthType name) → IsFalse (str_eq_ignore_ascii_case name (codes "Accept"))
-  pub pap_alone : (subsection : Subsection) → Contains subsections subsection → subsection.statements ≡ statement.Pap ∷ []
+-- `Accept`, in any case of its ASCII letters.
+abbrev pub is_accept : List ℕ → Bool
+is_accept name = str_eq_ignore_ascii_case name (codes "Accept")
 
--- The request's first User-Password is a text that isn't empty, and the password of the first entry of its User-Name.
-pub record HasPassword (users : List Entry) (lists : PairLists) : Type 0 where
-  pub entry : Entry
-  pub password : List ℕ
-  pub found : entry_of (key_of lists) users ≡ Some entry
-  pub checks : entry.checks ≡ password_item password ∷ []
-  pub given : given_password lists ≡ Some password
-  pub not_empty : 0 < length password
+-- A value that is this text.
+abbrev pub is_accept_value : Value → Bool
+is_accept_value value = elim (text_of value) [ None ↦ false | Some text ↦ is_accept text ]
+
+-- An edit can bring Auth-Type to `Accept`.
+abbrev pub edit_accepts : Edit → Bool
+edit_accepts edit = same_list edit.list Control && same_attr auth_type edit.attr && is_accept_value edit.value
+
+-- A module can bring Auth-Type to `Accept`: one whose users' items name Auth-Type, and one that sets it to its own name, where
+-- that is so.
+abbrev pub module_accepts : SiteModule → Bool
+module_accepts (site.Always m) = false
+module_accepts (site.Files m) = files_edits m.users Control auth_type
+module_accepts (site.Pap m) = is_accept m.name
+module_accepts (site.Chap m) = is_accept m.name
+
+-- So can a call of it.
+abbrev pub call_accepts : Option SiteModule → Bool
+call_accepts None = false
+call_accepts (Some m) = module_accepts m
+
+-- So can a statement that does something by itself: a call, or a line of an update.
+abbrev pub leaf_accepts : List SiteModule → Leaf → Bool
+leaf_accepts stack (Calls call) = call_accepts (slice_get stack call.instance)
+leaf_accepts stack (Edits edit) = edit_accepts edit
+
+-- Nothing among these statements can.
+abbrev pub NeverAccept : List SiteModule → List Statement → Type 0
+NeverAccept stack statements = EachLeaf (λ leaf. leaf_accepts stack leaf ≡ false) statements
+
+-- The statements are one call of an instance of `pap`, with no actions of its own.
+pub record IsPapAlone (stack : List SiteModule) (statements : List Statement) : Type 0 where
+  pub statement : Statement
+  pub instance : ℕ
+  pub pap : Pap
+  pub alone : statements ≡ statement ∷ []
+  pub calls : statement.kind ≡ kind.Call (record { instance = instance; overrides = [] })
+  pub is_pap : slice_get stack instance ≡ Some (site.Pap pap)
+
+-- Passwords alone let requests to a server in: nothing in its section authorize can bring Auth-Type to `Accept`, and each
+-- subsection of authenticate is `pap` alone.
+pub record ChecksPasswords (policies : Policies) (server : List ℕ) : Type 0 where
+  pub never_accepts : (id : SectionId) (statements : List Statement) → section_named policies.table server Authorize None ≡ Some id
+      → statements_of policies.table id ≡ Some statements → NeverAccept policies.stack statements
+  pub pap_alone : (name : List ℕ) (id : SectionId) (statements : List Statement) → section_named policies.table server Authenticate (Some name) ≡ Some id
+      → statements_of policies.table id ≡ Some statements → IsPapAlone policies.stack statements

@@ -1,10 +1,11 @@
 -- What a site answers to a request. Codes after RFC 2865 section 4; the flow is this project's own, after FreeRADIUS.
-use Rattle.std.specs.Prelude.{ℕ, ◌≡◌, List, [], Bool, Option, Some, None, if◌then◌else◌}
-use Rattle.std.specs.Str.{bytes_eq}
+use Rattle.std.specs.Prelude.{ℕ, ◌≡◌, List, [], Bool, Option, Some, None, replicate}
 use Rattle.std.specs.Arc.{arc_value}
+use Rattle.rad_outside.specs.declared.listen.Peer.{Peer}
+use Rattle.rad_value.specs.declared.scope.Scope.{Scope}
 use Rattle.rad_value.specs.PairLists.{PairLists}
 use Rattle.rad_packet.specs.declared.client.Client.{Client}
-use Rattle.rad_packet.specs.Packet.{packet_of}
+use Rattle.rad_packet.specs.Packet.{packet_of, authenticator_of}
 use Rattle.rad_clients.specs.Networks as networks
 use Rattle.rad_wire.specs.Pairs.{pairs_of, requested}
 use Rattle.rad_wire.specs.Reply.{reply_octets}
@@ -12,11 +13,10 @@ use Rattle.rad_policy.specs.declared.arrival.Arrived.{Arrived}
 use Rattle.rad_policy.specs.declared.outcome.Outcome.{Outcome}
 use Rattle.rad_policy.specs.declared.outcome.Outcome.TheVariants as outcome
 use Rattle.rad_policy.specs.Policy.{Reply, Replies, Withholds}
-use Rattle.rad_site.specs.declared.statement.Statement.{Statement}
-use Rattle.rad_site.specs.declared.statement.Subsection.{Subsection}
+use Rattle.mod_base.specs.Situation.{Situation}
 use Rattle.rad_site.specs.declared.verdict.Verdict.{Verdict}
 use Rattle.rad_site.specs.declared.verdict.Verdict.TheVariants as verdict
-use Rattle.rad_site.specs.Access.{decided, kept}
+use Rattle.rad_site.specs.Access.{has_server, decided, kept}
 use Rattle.rad_site.specs.Site.{Site}
 
 -- The client of a source address: of those whose network has it, the one with the longest prefix.
@@ -25,24 +25,36 @@ client_of site addr = networks.client_of addr site.clients
 
 -- Whether the site has a server of this name.
 abbrev pub has_server_of : Site → List ℕ → Bool
-has_server_of site name = bytes_eq site.server name
-
--- The authorize section of the server of this name. A missing one has no statements.
-abbrev pub authorize_of : Site → List ℕ → List Statement
-authorize_of site name = if has_server_of site name then site.authorize else []
-
--- The subsections of the authenticate section of the server of this name. A missing one has none.
-abbrev pub authenticate_of : Site → List ℕ → List Subsection
-authenticate_of site name = if has_server_of site name then site.authenticate else []
+has_server_of site name = has_server site.policies.table name
 
 -- The secret shared with a source.
 abbrev pub secret_of : Site → ℕ → List ℕ
 secret_of site addr = elim (client_of site addr) [ None ↦ [] | Some client ↦ client.secret ]
 
--- The lists at a request's end and what became of it, as its server's policy has it.
-abbrev pub decided_by : Site → List ℕ → List ℕ → List ℕ → PairLists × Verdict
-decided_by site server packet secret =
-    decided site.users (authorize_of site server) (authenticate_of site server) (requested (pairs_of packet secret site.dict))
+-- The scope of a request as its policy begins: nothing is captured, no loop runs, no code was given and no choice was made.
+abbrev pub begun_scope : PairLists → Peer → ℕ → ℕ → List ℕ → Scope
+begun_scope lists from moment luck authenticator = record {
+  lists = lists;
+  captures = replicate 9 None;
+  loops = replicate 8 None;
+  last = None;
+  choices = 0;
+  from = from;
+  moment = moment;
+  luck = luck;
+  authenticator = authenticator;
+}
+
+-- The situation in which the policy of a request begins, with these answers of devices still to come. There are no sessions
+-- yet.
+abbrev pub begun_in : Scope → List Bool → Situation
+begun_in scope answers = record { scope = scope; sessions = []; answers = answers; effects = [] }
+
+-- The situation at a request's end and what became of it, as its server's policy has it.
+abbrev pub decided_by : Site → Arrived → List ℕ → List ℕ → ℕ → ℕ → List Bool → Situation × Verdict
+decided_by site arrival packet secret moment luck answers =
+    decided site.policies site.dict arrival.server
+    (begun_in (begun_scope (requested (pairs_of packet secret site.dict)) arrival.from moment luck (authenticator_of packet)) answers)
 
 -- The reply of a verdict: an Access-Accept (2) of the reply list, an Access-Reject (3) of what a rejected request
 -- keeps of it, or none.
@@ -51,16 +63,20 @@ reply_to lists verdict.Accept packet secret = Replies (reply_octets 2 lists.repl
 reply_to lists verdict.Reject packet secret = Replies (reply_octets 3 (kept lists.reply) packet secret)
 reply_to lists verdict.Withhold packet secret = Withholds
 
--- What an authentic access request is answered. No module needs the moment, the luck or a device yet.
+-- What an authentic access request is answered at a moment, with a luck word and these answers of devices.
 unfoldable pub access_of : Site → Arrived → ℕ → ℕ → List Bool → Reply
 access_of site arrival moment luck answers =
     let packet = packet_of arrival.bytes in
     let secret = secret_of site arrival.from.addr in
-    let end = decided_by site arrival.server packet secret in
-    reply_to end.0 end.1 packet secret
+    let end = decided_by site arrival packet secret moment luck answers in
+    reply_to end.0.scope.lists end.1 packet secret
 
 -- The outcome is this reply, unless memory ran out.
 abbrev pub IsOutcome : Reply → Outcome → Type 0
 IsOutcome reply (outcome.Sent octets) = reply ≡ Replies (arc_value octets)
 IsOutcome reply outcome.Withheld = reply ≡ Withholds
 IsOutcome reply outcome.NoMemory = Unit {0}
+
+-- The outcome is what the site answers by some answers of devices, unless memory ran out.
+abbrev pub Answers : Site → Arrived → ℕ → ℕ → Outcome → Type 0
+Answers site arrival moment luck outcome = (answers : List Bool) × IsOutcome (access_of site arrival moment luck answers) outcome

@@ -12,6 +12,7 @@ Misses (fault.Conf wrong) read = read ≡ Err (fault.Conf wrong)
 Misses (fault.Dict wrong) read = read ≡ Err (fault.Dict wrong)
 Misses (fault.Users file wrong) read = read ≡ Err (fault.Users file wrong)
 Misses (fault.Tree wrong) read = read ≡ Err (fault.Tree wrong)
+Misses (fault.UnknownModule place kind) read = read ≡ Err (fault.UnknownModule place kind)
 Misses (fault.BadSetting place name) read = read ≡ Err (fault.BadSetting place name)
 Misses fault.ReadFault read = Unit {0}
 Misses fault.NoMemory read = Unit {0}

@@ -2,11 +2,6 @@
 
 use rad_words::{AttrId, Space};
 
-pub(crate) const USER_PASSWORD: AttrId = AttrId {
-    space: Space::Standard,
-    number: 2,
-};
-
 pub(crate) const REPLY_MESSAGE: AttrId = AttrId {
     space: Space::Standard,
     number: 18,
@@ -15,9 +10,4 @@ pub(crate) const REPLY_MESSAGE: AttrId = AttrId {
 pub(crate) const AUTH_TYPE: AttrId = AttrId {
     space: Space::Internal,
     number: 1,
-};
-
-pub(crate) const CLEARTEXT_PASSWORD: AttrId = AttrId {
-    space: Space::Internal,
-    number: 4,
 };

@@ -1,16 +1,20 @@
 //! A generation from the tree of its configuration, or the first fault at its place.
 
 mod client;
+mod codes;
 mod dictionary;
+mod instances;
 mod item;
+mod listen;
 mod modules;
+mod numbers;
 mod path;
+mod policies;
 mod refusal;
-mod server;
+mod servers;
 mod site;
-mod statement;
-mod subsection;
 mod text;
+mod users;
 
 pub(crate) use dictionary::dict_at;
 pub(crate) use site::{CONF, site_of};

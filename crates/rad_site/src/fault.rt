@@ -8,16 +8,7 @@ use rad_dict::DictFault;
 use rad_outside::{NoMemory, Octets, Place};
 use std::alloc::{AllocError, AllocFailed};
 use thiserror::Error;
-
-/// A statement or a section that can't be built.
-#[derive(Debug, Drop, Error)]
-pub enum TreeFault {
-    /// It isn't built yet, at its first line.
-    #[error("NotBuilt")]
-    NotBuilt(Place),
-    #[error("NoMemory")]
-    NoMemory,
-}
+use unlang_tree::TreeFault;
 
 /// Why a generation can't be built: the first fault of its files.
 /// Want of memory and a read fault are always variants of their own, never inside another.
@@ -33,8 +24,12 @@ pub enum BuildFault {
     /// A users file, by its name, and what is wrong in it.
     #[error("Users")]
     Users(Octets, UsersFault),
+    /// What is wrong in the sections of a server, or a thing that isn't built yet.
     #[error("Tree")]
     Tree(TreeFault),
+    /// A module of a kind that there isn't: its place and the kind.
+    #[error("UnknownModule")]
+    UnknownModule(Place, Octets),
     #[error("ReadFault")]
     ReadFault,
     #[error("NoMemory")]
@@ -76,6 +71,32 @@ impl From<DictFault> for BuildFault {
             DictFault::TooDeep(place) => BuildFault::Dict(DictFault::TooDeep(place)),
             DictFault::Missing(place) => BuildFault::Dict(DictFault::Missing(place)),
             DictFault::TooLong(place) => BuildFault::Dict(DictFault::TooLong(place)),
+        }
+    }
+}
+
+impl From<TreeFault> for BuildFault {
+    ghost use Rattle.rad_site.specs.TreeFault.{fault_of};
+
+    ghost from_gives = { λ e fault. fault ≡ fault_of e };
+
+    fn from(e: TreeFault) -> BuildFault {
+        match e {
+            TreeFault::NoMemory => BuildFault::NoMemory,
+            TreeFault::UnknownModule(place, word) => {
+                BuildFault::Tree(TreeFault::UnknownModule(place, word))
+            }
+            TreeFault::NoSuchMethod(place) => BuildFault::Tree(TreeFault::NoSuchMethod(place)),
+            TreeFault::UnknownKeyword(place) => BuildFault::Tree(TreeFault::UnknownKeyword(place)),
+            TreeFault::BadAction(place) => BuildFault::Tree(TreeFault::BadAction(place)),
+            TreeFault::BadUpdate(place) => BuildFault::Tree(TreeFault::BadUpdate(place)),
+            TreeFault::BadCondition(place) => BuildFault::Tree(TreeFault::BadCondition(place)),
+            TreeFault::BadPattern(place) => BuildFault::Tree(TreeFault::BadPattern(place)),
+            TreeFault::BadExpansion(place) => BuildFault::Tree(TreeFault::BadExpansion(place)),
+            TreeFault::PolicyLoop(place) => BuildFault::Tree(TreeFault::PolicyLoop(place)),
+            TreeFault::TooDeep(place) => BuildFault::Tree(TreeFault::TooDeep(place)),
+            TreeFault::TooMany(place) => BuildFault::Tree(TreeFault::TooMany(place)),
+            TreeFault::NotBuilt(place) => BuildFault::Tree(TreeFault::NotBuilt(place)),
         }
     }
 }

@@ -1,22 +1,20 @@
 ghost use Rattle.std.specs.Prelude.{◌≡◌};
 
-use crate::statement::{Statements, Subsections};
-use mod_files::Users;
+use crate::policies::Policies;
 use rad_clients::Clients;
 use rad_dict::Dict;
 use rad_outside::{Octets, Peer};
 use std::marker::Model;
 
-/// A generation of a site: a dictionary, the clients, the users of a file, and one server with one auth listener.
+/// A generation of a site: a dictionary, the clients, the modules and the servers' sections that call them, and one auth
+/// listener.
 #[derive(Drop)]
 pub struct Generation {
     pub(crate) dict: Dict,
     pub(crate) clients: Clients,
-    pub(crate) users: Users,
+    pub(crate) policies: Policies,
     pub(crate) server: Octets,
     pub(crate) at: Peer,
-    pub(crate) authorize: Statements,
-    pub(crate) authenticate: Subsections,
 }
 
 impl Model for Generation {
@@ -27,23 +25,21 @@ impl Model for Generation {
     ghost view = { λ g. record {
       dict = g.dict;
       clients = g.clients;
-      users = g.users;
+      policies = g.policies;
       server = g.server;
       at = g.at;
-      authorize = g.authorize;
-      authenticate = g.authenticate;
     } };
 }
 
 impl Generation {
-    /// The name of the server.
+    /// The name of the listener's server.
     pub fn server(&self) -> &[u8]
         ensures { result.now ≡ self.now.server }
     {
         self.server.as_slice()
     }
 
-    /// Where the server's listener is bound.
+    /// Where the listener is bound.
     pub fn at(&self) -> Peer
         ensures { result ≡ self.now.at }
     {

@@ -1,4 +1,4 @@
-//! Generations of a site: its client, its users and its virtual server, built from its folder, and what they answer to
+//! Generations of a site: its clients, its modules and its virtual servers, built from its folder, and what they answer to
 //! a request.
 //! The one model is the site: what the folder is built to, or its first fault, and the reply that the server's sections
 //! mean for a request.
@@ -7,21 +7,22 @@
 
 mod access;
 mod attributes;
+mod bare_world;
 mod build;
-mod edits;
 mod fault;
+mod files_module;
 mod generation;
-mod judgement;
 mod laws;
-mod pap;
+mod policies;
 mod policy;
 mod reply;
-mod run;
-mod statement;
+mod site_module;
 mod verdict;
 
 pub use build::fault_text;
-pub use fault::{BuildFault, TreeFault};
+pub use fault::BuildFault;
+pub use files_module::FilesModule;
 pub use generation::Generation;
-pub use laws::accepted_requests_have_the_users_password;
-pub use statement::{Statement, Statements, Subsection, Subsections};
+pub use laws::passwords_let_requests_in;
+pub use site_module::SiteModule;
+pub use unlang_tree::TreeFault;

@@ -1,20 +1,23 @@
-ghost use Rattle.std.specs.Prelude.{◌≡◌, [], IfOk};
+ghost use Rattle.std.specs.Prelude.{◌≡◌, [], length, IfOk};
 ghost use Rattle.rad_outside.specs.declared.listen.ListenKind.TheVariants.{Auth};
+ghost use Rattle.rad_outside.specs.Moments.{IsInTime};
+ghost use Rattle.rad_packet.specs.Octets.{IsChecked};
+ghost use Rattle.rad_packet.specs.Packet.{authenticator_of};
 ghost use Rattle.rad_policy.specs.Policy.{IsAuthenticUnder};
 ghost use Rattle.rad_policy.specs.Seen.{arrived_of, FitsDatagram};
-ghost use Rattle.rad_site.specs.Request.{authorize_of, authenticate_of, secret_of, access_of, IsOutcome};
+ghost use Rattle.rad_site.specs.Request.{secret_of, Answers};
 ghost use Rattle.rad_site.specs.Meaning.{site_meaning};
 
-use crate::access::decide;
+use crate::bare_world::BareWorld;
 use crate::build::{CONF, dict_at, site_of};
 use crate::fault::BuildFault;
 use crate::generation::Generation;
 use crate::reply::reply_to;
-use crate::statement::{Statement, Subsection};
 use rad_conf::read_conf;
 use rad_outside::{Files, NoMemory, Shelf};
-use rad_packet::{Client, check};
+use rad_packet::{Checked, Client, check};
 use rad_policy::{Arrival, Outcome, Policy};
+use rad_value::Scope;
 use rad_wire::decode;
 use std::alloc::Global;
 
@@ -31,7 +34,7 @@ impl Policy for Generation {
         files.begin();
         let conf = read_conf(alloc, files, dir, CONF)?;
         let dict = dict_at(alloc, files, dir)?;
-        site_of(alloc, files, dir, dict, conf.root().as_slice())
+        site_of(alloc, files, dir, dict, &conf)
     }
 
     fn client(&self, addr: u32) -> Option<&Client> {
@@ -39,7 +42,7 @@ impl Policy for Generation {
     }
 
     fn has_server(&self, name: &[u8]) -> bool {
-        self.server.as_slice() == name
+        self.policies.has_server(name)
     }
 
     fn max_requests(&self) -> u32 {
@@ -54,40 +57,28 @@ impl Policy for Generation {
         &self,
         alloc: Global,
         arrival: &Arrival,
-        _moment: u64,
-        _luck: u64,
+        moment: u64,
+        luck: u64,
         _shelf: &mut S,
     ) -> Outcome {
-        match self.answer(alloc, arrival) {
+        match self.answer(alloc, arrival, moment, luck) {
             Ok(outcome) => outcome,
             Err(_) => Outcome::NoMemory,
         }
     }
 }
 
+/// The Request Authenticator of a packet.
+fn authenticator_of(packet: &Checked) -> [u8; 16]
+    requires { IsChecked packet.now }
+    ensures { result ≡ authenticator_of packet.now.octets.now }
+{
+    let mut authenticator = [0; 16];
+    authenticator.copy_from_slice(packet.authenticator());
+    authenticator
+}
+
 impl Generation {
-    /// The statements of the authorize section of a server, none where there is no such server.
-    fn authorize(&self, server: &[u8]) -> &[Statement]
-        ensures { result.now ≡ authorize_of self.now server.now }
-    {
-        if self.has_server(server) {
-            self.authorize.as_slice()
-        } else {
-            &[]
-        }
-    }
-
-    /// The subsections of the authenticate section of a server, none where there is no such server.
-    fn authenticate(&self, server: &[u8]) -> &[Subsection]
-        ensures { result.now ≡ authenticate_of self.now server.now }
-    {
-        if self.has_server(server) {
-            self.authenticate.as_slice()
-        } else {
-            &[]
-        }
-    }
-
     /// The secret shared with a source, empty where it is no client's.
     fn secret(&self, addr: u32) -> &[u8]
         ensures { result.now ≡ secret_of self.now addr }
@@ -98,25 +89,31 @@ impl Generation {
         }
     }
 
-    /// What an authentic request is answered.
-    fn answer(&self, alloc: Global, arrival: &Arrival) -> Result<Outcome, NoMemory>
+    /// What an authentic request is answered at a moment, with a luck word.
+    fn answer(
+        &self,
+        alloc: Global,
+        arrival: &Arrival,
+        moment: u64,
+        luck: u64,
+    ) -> Result<Outcome, NoMemory>
         requires authentic { IsAuthenticUnder site_meaning self.now (arrived_of arrival.now) }
         requires auth { arrival.now.kind ≡ Auth }
-        ensures outcome { IfOk result (IsOutcome (access_of self.now (arrived_of arrival.entry.now) 0 0 [])) }
+        requires moment { IsInTime moment }
+        ensures outcome { IfOk result (Answers self.now (arrived_of arrival.entry.now) moment luck) }
         ensures limit { IfOk result FitsDatagram }
     {
         let Ok(request) = check(arrival.bytes, self.client(arrival.from.addr), arrival.kind) else {
             unreachable!()
         };
         let secret = self.secret(arrival.from.addr);
-        let mut lists = decode(alloc, &request, secret, &self.dict)?;
-        let verdict = decide(
-            alloc,
-            &self.users,
-            self.authorize(arrival.server),
-            self.authenticate(arrival.server),
-            &mut lists,
-        )?;
-        reply_to(alloc, verdict, &lists, &request, secret)
+        let lists = decode(alloc, &request, secret, &self.dict)?;
+        let authenticator = authenticator_of(&request);
+        let mut scope = Scope::new(lists, arrival.from, moment, luck, authenticator);
+        let mut world = BareWorld::new(alloc);
+        let verdict = self
+            .policies
+            .decide(alloc, arrival.server, &mut scope, &mut world, &self.dict)?;
+        reply_to(alloc, verdict, &scope.lists, &request, secret)
     }
 }

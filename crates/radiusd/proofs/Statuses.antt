@@ -26,6 +26,7 @@ IsSiteFault-by_status (fault.Dict wrong) is = tt
 IsSiteFault-by_status (fault.Users file wrong) is = tt
 IsSiteFault-by_status (fault.Tree wrong) is = tt
 IsSiteFault-by_status (fault.BadSetting place name) is = tt
+IsSiteFault-by_status (fault.UnknownModule place kind) is = tt
 IsSiteFault-by_status fault.ReadFault is = cc
 IsSiteFault-by_status fault.NoMemory is = cc
 
@@ -124,6 +125,7 @@ ends_refused (fault.Dict wrong) ended (inl is) = inl is
 ends_refused (fault.Users file wrong) ended (inl is) = inl is
 ends_refused (fault.Tree wrong) ended (inl is) = inl is
 ends_refused (fault.BadSetting place name) ended (inl is) = inl is
+ends_refused (fault.UnknownModule place kind) ended (inl is) = inl is
 ends_refused fault.ReadFault ended (inl is) = inr (inl is)
 ends_refused fault.NoMemory ended (inl is) = inr (inr is)
 

@@ -46,6 +46,7 @@ fault_line (fault.Dict wrong) = fault_text (fault.Dict wrong) ++ 10 ∷ []
 fault_line (fault.Users file wrong) = fault_text (fault.Users file wrong) ++ 10 ∷ []
 fault_line (fault.Tree wrong) = fault_text (fault.Tree wrong) ++ 10 ∷ []
 fault_line (fault.BadSetting place name) = fault_text (fault.BadSetting place name) ++ 10 ∷ []
+fault_line (fault.UnknownModule place kind) = fault_text (fault.UnknownModule place kind) ++ 10 ∷ []
 fault_line fault.ReadFault = fault_text fault.ReadFault ++ 10 ∷ []
 fault_line fault.NoMemory = []
 

@@ -44,6 +44,7 @@ status_of (fault.Dict wrong) = status.Configuration
 status_of (fault.Users file wrong) = status.Configuration
 status_of (fault.Tree wrong) = status.Configuration
 status_of (fault.BadSetting place name) = status.Configuration
+status_of (fault.UnknownModule place kind) = status.Configuration
 status_of fault.ReadFault = status.ReadFault
 status_of fault.NoMemory = status.NoMemory
 
@@ -54,6 +55,7 @@ IsSiteFault (fault.Dict wrong) = Unit {0}
 IsSiteFault (fault.Users file wrong) = Unit {0}
 IsSiteFault (fault.Tree wrong) = Unit {0}
 IsSiteFault (fault.BadSetting place name) = Unit {0}
+IsSiteFault (fault.UnknownModule place kind) = Unit {0}
 IsSiteFault fault.ReadFault = ⊥
 IsSiteFault fault.NoMemory = ⊥
 

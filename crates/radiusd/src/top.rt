@@ -37,6 +37,7 @@ fn status_of(fault: &BuildFault) -> Status
         BuildFault::Conf(_) => Status::Configuration,
         BuildFault::Dict(_) => Status::Configuration,
         BuildFault::BadSetting(_, _) => Status::Configuration,
+        BuildFault::UnknownModule(_, _) => Status::Configuration,
         BuildFault::Users(_, _) => Status::Configuration,
         BuildFault::Tree(_) => Status::Configuration,
         BuildFault::ReadFault => Status::ReadFault,

@@ -1,41 +1,16 @@
 //! Items of a configuration by their form.
 
 ghost use Rattle.std.specs.Prelude.{◌≡◌};
-ghost use Rattle.std.specs.Option.{option_map};
-ghost use Rattle.rad_site.specs.Items.{has_expansion, is_literal, is_assignment, pair_of, setting_of, is_block, plain_block, named_block};
+ghost use Rattle.std.specs.Option.{option_map, option_copied};
+ghost use Rattle.rad_site.specs.Items.{is_assignment, pair_of, setting_of, is_pair_of, pair_named, nodes_of, is_block, named_block};
 
-use rad_conf::{Item, Node, Quote, Word};
+use rad_conf::{Item, Node};
 
 /// Whether an operator is `=` or `:=`.
 pub(crate) fn is_assignment(operator: &[u8]) -> bool
     ensures { result ≡ is_assignment operator.now }
 {
     operator == b"=".as_slice() || operator == b":=".as_slice()
-}
-
-/// Whether an expansion stands in a text.
-#[tactic(auto, unfolding(crate::specs::Items::has_expansion))]
-pub(crate) fn has_expansion(text: &[u8]) -> bool
-    ensures { result ≡ has_expansion text.now }
-{
-    let mut rest = text;
-    while let Some((octet, after)) = rest.split_first() {
-        if *octet == b'%' && after.first() == Some(&b'{') {
-            return true;
-        }
-        rest = after;
-    }
-    false
-}
-
-/// Whether a word stands for its text.
-pub(crate) fn is_literal(word: &Word) -> bool
-    ensures { result ≡ is_literal word.now }
-{
-    match word.quote {
-        Quote::Bare => !has_expansion(word.text.as_slice()),
-        Quote::Single | Quote::Double => false,
-    }
 }
 
 /// A pair by its name, its operator and its value.
@@ -70,6 +45,41 @@ pub(crate) fn setting_of(node: &Node) -> Option<(&[u8], &[u8])>
     }
 }
 
+/// Whether an item is a pair of this name.
+fn is_pair_of(wanted: &[u8], node: &Node) -> bool
+    ensures { result ≡ is_pair_of wanted.now node.now }
+{
+    match &node.item {
+        Item::Pair(left, _, _) => left.text.as_slice() == wanted,
+        Item::Name(_) => false,
+        Item::Block(_, _, _) => false,
+    }
+}
+
+/// The first pair of this name among items.
+pub(crate) fn pair_named<'a>(wanted: &[u8], items: &'a [Node]) -> Option<&'a Node>
+    ensures { option_copied result ≡ pair_named wanted.now items.now }
+{
+    items.iter().find(|node| is_pair_of(wanted, node))
+}
+
+/// The nodes of a block of this kind; none of another item.
+pub(crate) fn nodes_of<'a>(wanted: &[u8], node: &'a Node) -> &'a [Node]
+    ensures { result.now ≡ nodes_of wanted.now node.now }
+{
+    match &node.item {
+        Item::Pair(_, _, _) => &[],
+        Item::Name(_) => &[],
+        Item::Block(kind, _, body) => {
+            if kind.text.as_slice() == wanted {
+                body.as_slice()
+            } else {
+                &[]
+            }
+        }
+    }
+}
+
 /// Whether an item is a block of this kind.
 pub(crate) fn is_block(wanted: &[u8], node: &Node) -> bool
     ensures { result ≡ is_block wanted.now node.now }
@@ -78,20 +88,6 @@ pub(crate) fn is_block(wanted: &[u8], node: &Node) -> bool
         Item::Pair(_, _, _) => false,
         Item::Name(_) => false,
         Item::Block(kind, _, _) => kind.text.as_slice() == wanted,
-    }
-}
-
-/// The kind and the nodes of a block that has no name.
-pub(crate) fn plain_block(node: &Node) -> Option<(&[u8], &[Node])>
-    ensures { option_map (λ block. (block.0.now, block.1.now)) result ≡ plain_block node.now }
-{
-    match &node.item {
-        Item::Pair(_, _, _) => None,
-        Item::Name(_) => None,
-        Item::Block(kind, name, body) => match name {
-            None => Some((kind.text.as_slice(), body.as_slice())),
-            Some(_) => None,
-        },
     }
 }
 

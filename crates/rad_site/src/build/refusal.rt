@@ -1,11 +1,12 @@
 //! Faults at their places.
 
-ghost use Rattle.std.specs.Prelude.{◌≡◌, IfOk};
+ghost use Rattle.std.specs.Prelude.{◌≡◌, IfOk, Err};
 ghost use Rattle.rad_site.specs.Nodes.{Gives, refused, bad_setting};
 
-use crate::fault::{BuildFault, TreeFault};
+use crate::fault::BuildFault;
 use rad_outside::{NoMemory, Octets, Place};
 use std::alloc::Global;
+use unlang_tree::TreeFault;
 
 /// A copy of a place.
 fn copy_of(alloc: Global, place: &Place) -> Result<Place, NoMemory>
@@ -32,4 +33,13 @@ pub(crate) fn refuse_setting<T>(alloc: Global, place: &Place, name: &[u8]) -> Re
     let place = copy_of(alloc, place)?;
     let name = Octets::of(alloc, name)?;
     Err(BuildFault::BadSetting(place, name))
+}
+
+/// Refuses a module of a kind that there isn't.
+pub(crate) fn unknown_module<T>(alloc: Global, place: &Place, kind: &[u8]) -> Result<T, BuildFault>
+    ensures { Gives result (Err (BuildFault.UnknownModule place.now kind.now)) }
+{
+    let place = copy_of(alloc, place)?;
+    let kind = Octets::of(alloc, kind)?;
+    Err(BuildFault::UnknownModule(place, kind))
 }

@@ -1,26 +1,25 @@
 //! The site of a whole configuration.
 
 ghost use Rattle.std.specs.Prelude.{◌≡◌, []};
-ghost use Rattle.std.specs.List.{find, filter};
-ghost use Rattle.std.specs.Option.{option_map, option_copied};
+ghost use Rattle.std.specs.List.{find};
+ghost use Rattle.std.specs.Option.{option_copied};
 ghost use Rattle.rad_outside.specs.Telling.{Counts};
 ghost use Rattle.rad_site.specs.Nodes.{Gives, bad_setting, after_each};
 ghost use Rattle.rad_site.specs.Sources.{FindsIn};
-ghost use Rattle.rad_site.specs.Items.{is_block};
-ghost use Rattle.rad_site.specs.ModulesBlock.{alone};
-ghost use Rattle.rad_site.specs.ServerBlock.{server_at};
-ghost use Rattle.rad_site.specs.Built.{whole_conf, is_unbuilt, none_unbuilt, IsFirst, with_client, with_item, clients_in, modules_in, server_in, site_with, site_behind, site_of};
+ghost use Rattle.rad_site.specs.Built.{whole_conf, is_unbuilt, none_unbuilt, with_client, with_item, clients_in, parts_in, site_behind, site_of};
 
 use crate::build::client::client_at;
+use crate::build::instances::Modules;
 use crate::build::item::is_block;
-use crate::build::modules::{Modules, modules_at};
+use crate::build::modules::modules_in;
+use crate::build::policies::policies_in;
 use crate::build::refusal::{refuse, refuse_setting};
-use crate::build::server::{Server, server_at};
+use crate::build::servers::{Listener, servers_in};
 use crate::fault::BuildFault;
 use crate::generation::Generation;
-use mod_files::Users;
+use crate::policies::Policies;
 use rad_clients::Clients;
-use rad_conf::Node;
+use rad_conf::{Conf, Node};
 use rad_dict::Dict;
 use rad_outside::{Files, Octets, Place};
 use std::alloc::Global;
@@ -39,25 +38,11 @@ fn refuse_whole<T>(alloc: Global, name: &[u8]) -> Result<T, BuildFault>
     refuse_setting(alloc, &Place { file, line: 0 }, name)
 }
 
-/// The first block of a kind, and the nodes behind it.
-fn first_of<'a>(kind: &[u8], nodes: &'a [Node]) -> Option<(&'a Node, &'a [Node])>
-    ensures { IsFirst (is_block kind.now) nodes.now (option_map (λ x. (x.0.now, x.1.now)) result) }
-{
-    let mut rest = nodes;
-    while let Some((node, after)) = rest.split_first() {
-        if is_block(kind, node) {
-            return Some((node, after));
-        }
-        rest = after;
-    }
-    None
-}
-
 /// Whether an item is a block that isn't built.
 fn is_unbuilt(node: &Node) -> bool
     ensures { result ≡ is_unbuilt node.now }
 {
-    is_block(b"realm", node) || is_block(b"policy", node) || is_block(b"control", node)
+    is_block(b"realm", node) || is_block(b"control", node)
 }
 
 /// The first block at the top that isn't built.
@@ -74,16 +59,6 @@ fn none_unbuilt(alloc: Global, nodes: &[Node]) -> Result<(), BuildFault>
     match unbuilt_in(nodes) {
         None => Ok(()),
         Some(node) => refuse(alloc, &node.place),
-    }
-}
-
-/// What was read of a block behind which no other of its kind stands.
-fn only_one<T: Drop>(alloc: Global, read: T, kind: &[u8], after: &[Node]) -> Result<T, BuildFault>
-    ensures { Gives result (alone read (filter (is_block kind.now) after.now)) }
-{
-    match first_of(kind, after) {
-        None => Ok(read),
-        Some((second, _)) => refuse(alloc, &second.place),
     }
 }
 
@@ -131,81 +106,43 @@ fn clients_in(alloc: Global, nodes: &[Node]) -> Result<Clients, BuildFault>
     each_client(alloc, nodes)
 }
 
-/// The modules, none where they are missing.
-fn modules_in<F: Files>(
+/// The policies of a configuration with these modules, and its listener.
+#[tactic(auto, unfolding(crate::specs::Built::parts_in))]
+fn parts_in(
     alloc: Global,
-    files: &mut F,
-    dir: &str,
     dict: &Dict,
-    nodes: &[Node],
-) -> Result<Modules, BuildFault>
-    ensures told { FindsIn dir.now (λ sources. modules_in sources dict.now nodes.now) result
-        (F.told files.old) (F.told files.new) }
-    ensures faults { Counts (F.faults files.old) (F.faults files.new) (result ≡ Err BuildFault.ReadFault) }
-{
-    let Some((node, after)) = first_of(b"modules", nodes) else {
-        return Ok(Modules {
-            users: None,
-            pap: false,
-        });
-    };
-    let modules = modules_at(alloc, files, dir, dict, node)?;
-    only_one(alloc, modules, b"modules", after)
-}
-
-/// The one server.
-#[tactic(auto, unfolding(crate::specs::Nodes::one_of))]
-fn server_in(alloc: Global, modules: &Modules, nodes: &[Node]) -> Result<Server, BuildFault>
-    ensures { Gives result (server_in modules.now nodes.now) }
-{
-    let Some((node, after)) = first_of(b"server", nodes) else {
-        return refuse_whole(alloc, b"listen");
-    };
-    let server = server_at(alloc, modules, node)?;
-    only_one(alloc, server, b"server", after)
-}
-
-/// The generation of these parts.
-fn site_with(
-    alloc: Global,
-    dict: Dict,
-    clients: Clients,
     modules: Modules,
-    server: Server,
-) -> Generation
-    ensures { result ≡ site_with dict clients modules server }
+    conf: &Conf,
+) -> Result<(Policies, Listener), BuildFault>
+    ensures { Gives result (parts_in dict.now modules conf.now) }
 {
-    let Modules { users, pap: _ } = modules;
-    let Server {
-        name,
-        at,
-        authorize,
-        authenticate,
-    } = server;
-    Generation {
-        dict,
-        clients,
-        users: users.unwrap_or(Users::new(alloc)),
-        server: name,
-        at,
-        authorize,
-        authenticate,
+    let servers = servers_in(alloc, conf.root().as_slice())?;
+    let policies = policies_in(alloc, dict, modules, conf)?;
+    match servers.into_listener() {
+        Some(listener) => Ok((policies, listener)),
+        None => refuse_whole(alloc, b"listen"),
     }
 }
 
-/// The generation with the one server of the configuration.
+/// The generation behind its modules.
 #[tactic(auto, unfolding(crate::specs::Built::site_behind))]
 fn site_behind(
     alloc: Global,
     dict: Dict,
     clients: Clients,
     modules: Modules,
-    nodes: &[Node],
+    conf: &Conf,
 ) -> Result<Generation, BuildFault>
-    ensures { Gives result (site_behind dict clients modules nodes.now) }
+    ensures { Gives result (site_behind dict clients modules conf.now) }
 {
-    let server = server_in(alloc, &modules, nodes)?;
-    Ok(site_with(alloc, dict, clients, modules, server))
+    let (policies, listener) = parts_in(alloc, &dict, modules, conf)?;
+    Ok(Generation {
+        dict,
+        clients,
+        policies,
+        server: listener.server,
+        at: listener.at,
+    })
 }
 
 /// The generation of a whole configuration with this dictionary.
@@ -214,13 +151,14 @@ pub(crate) fn site_of<F: Files>(
     files: &mut F,
     dir: &str,
     dict: Dict,
-    nodes: &[Node],
+    conf: &Conf,
 ) -> Result<Generation, BuildFault>
-    ensures told { FindsIn dir.now (λ sources. site_of sources dict nodes.now) result
+    ensures told { FindsIn dir.now (λ sources. site_of sources dict conf.now) result
         (F.told files.old) (F.told files.new) }
     ensures faults { Counts (F.faults files.old) (F.faults files.new) (result ≡ Err BuildFault.ReadFault) }
 {
+    let nodes = conf.root().as_slice();
     let clients = clients_in(alloc, nodes)?;
     let modules = modules_in(alloc, files, dir, &dict, nodes)?;
-    site_behind(alloc, dict, clients, modules, nodes)
+    site_behind(alloc, dict, clients, modules, conf)
 }

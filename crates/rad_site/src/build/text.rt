@@ -1,14 +1,15 @@
 //! The printed texts of faults.
 
-ghost use Rattle.std.specs.Prelude.{◌≡◌, ◌++◌, codes, IfOk};
+ghost use Rattle.std.specs.Prelude.{◌≡◌, ◌++◌, IfOk};
 ghost use Rattle.rad_site.specs.FaultText.{placed_text, conf_fault_text, tree_fault_text, dict_fault_text, users_fault_text, fault_text, read_fault_text, memory_text};
 
-use crate::fault::{BuildFault, TreeFault};
+use crate::fault::BuildFault;
 use mod_files::UsersFault;
 use rad_conf::ConfFault;
 use rad_dict::DictFault;
 use rad_outside::{NoMemory, Octets, Place};
 use std::alloc::Global;
+use unlang_tree::TreeFault;
 
 /// A reason at a line of a file.
 fn lined_text(alloc: Global, file: &[u8], line: u32, reason: &[u8]) -> Result<Octets, NoMemory>
@@ -58,22 +59,35 @@ fn conf_fault_text(alloc: Global, fault: &ConfFault) -> Result<Octets, NoMemory>
     }
 }
 
+/// A reason and its word at their place.
+fn worded_text(alloc: Global, place: &Place, reason: &[u8], word: &[u8]) -> Result<Octets, NoMemory>
+    ensures { IfOk result (λ text. text ≡ placed_text place.now (reason.now ++ word.now)) }
+{
+    let mut whole = Vec::from_slice(alloc, reason)?;
+    whole.extend_from_slice(word)?;
+    placed_text(alloc, place, whole.as_slice())
+}
+
 fn tree_fault_text(alloc: Global, fault: &TreeFault) -> Result<Octets, NoMemory>
     ensures { IfOk result (λ text. text ≡ tree_fault_text fault.now) }
 {
     match fault {
+        TreeFault::UnknownModule(place, word) => {
+            worded_text(alloc, place, b"UnknownModule ", word.as_slice())
+        }
+        TreeFault::NoSuchMethod(place) => placed_text(alloc, place, b"NoSuchMethod"),
+        TreeFault::UnknownKeyword(place) => placed_text(alloc, place, b"UnknownKeyword"),
+        TreeFault::BadAction(place) => placed_text(alloc, place, b"BadAction"),
+        TreeFault::BadUpdate(place) => placed_text(alloc, place, b"BadUpdate"),
+        TreeFault::BadCondition(place) => placed_text(alloc, place, b"BadCondition"),
+        TreeFault::BadPattern(place) => placed_text(alloc, place, b"BadPattern"),
+        TreeFault::BadExpansion(place) => placed_text(alloc, place, b"BadExpansion"),
+        TreeFault::PolicyLoop(place) => placed_text(alloc, place, b"PolicyLoop"),
+        TreeFault::TooDeep(place) => placed_text(alloc, place, b"TooDeep"),
+        TreeFault::TooMany(place) => placed_text(alloc, place, b"TooMany"),
         TreeFault::NotBuilt(place) => placed_text(alloc, place, b"NotBuilt"),
         TreeFault::NoMemory => memory_text(alloc),
     }
-}
-
-/// A setting out of its form, by its word.
-fn setting_fault_text(alloc: Global, place: &Place, name: &[u8]) -> Result<Octets, NoMemory>
-    ensures { IfOk result (λ text. text ≡ placed_text place.now (codes "BadSetting " ++ name.now)) }
-{
-    let mut reason = Vec::from_slice(alloc, b"BadSetting ")?;
-    reason.extend_from_slice(name)?;
-    placed_text(alloc, place, reason.as_slice())
 }
 
 fn dict_fault_text(alloc: Global, fault: &DictFault) -> Result<Octets, NoMemory>
@@ -108,7 +122,12 @@ pub fn fault_text(alloc: Global, fault: &BuildFault) -> Result<Octets, NoMemory>
         BuildFault::Conf(wrong) => conf_fault_text(alloc, wrong),
         BuildFault::Dict(wrong) => dict_fault_text(alloc, wrong),
         BuildFault::Users(file, wrong) => users_fault_text(alloc, file.as_slice(), wrong),
-        BuildFault::BadSetting(place, name) => setting_fault_text(alloc, place, name.as_slice()),
+        BuildFault::BadSetting(place, name) => {
+            worded_text(alloc, place, b"BadSetting ", name.as_slice())
+        }
+        BuildFault::UnknownModule(place, kind) => {
+            worded_text(alloc, place, b"UnknownModule ", kind.as_slice())
+        }
         BuildFault::Tree(wrong) => tree_fault_text(alloc, wrong),
         BuildFault::ReadFault => read_fault_text(alloc),
         BuildFault::NoMemory => memory_text(alloc),

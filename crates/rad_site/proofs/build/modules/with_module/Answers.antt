@@ -1,33 +1,21 @@
-use Rattle.std.proofs.Common.{sym}
-use Rattle.rad_site.specs.Nodes.{refused}
-use Rattle.rad_site.specs.ModulesBlock.{with_files, with_pap, with_module}
+use Rattle.std.proofs.Common.{ℕ, List, Option, Some, None, Result, Ok, refl, sym, ap}
+use Rattle.rad_conf.specs.declared.tree.Node.{Node}
+use Rattle.rad_site.specs.declared.fault.BuildFault.{BuildFault}
+use Rattle.rad_site.specs.Modules.{Modules}
+use Rattle.rad_site.specs.ModulesBlock.{with_instance, with_module}
 use Rattle.rad_site.proofs.Finding.{FindsIn-pure, FindsIn-same}
-use Rattle.rad_site.proofs.ModuleCases.{no_block, is_files, is_pap, is_neither}
 use Rattle.rad_site.proofs.build.modules.with_module.Goals as goal
 
 pub returns-in_default-clause-told : goal.returns-in_default-clause-told
+unfolding with_module
 returns-in_default-clause-told g c =
     let node = c.args.node.now in
-    FindsIn-pure c.args.dir.now (λ sources. with_module sources c.args.dict.now c.args.known node) c.refuse.result (refused node.place) (g.F.Files.told c.args.files.now)
-    (λ sources. no_block sources c.args.dict.now c.args.known node (sym c.in_default.ensures)) c.refuse.ensures
-
-pub returns-then-is_first_files-clause-told : goal.returns-then-is_first_files-clause-told
-returns-then-is_first_files-clause-told g c =
-    let node = c.args.node.now in
-    let items = c.in-Some.items.now in
-    FindsIn-same c.args.dir.now (λ sources. with_files sources c.args.dict.now c.args.known node.place items) (λ sources. with_module sources c.args.dict.now c.args.known node) c.with_files.result (g.F.Files.told c.args.files.now) (g.F.Files.told c.with_files.new.files)
-    (λ sources. is_files sources c.args.dict.now c.args.known node (c.in-Some.kind.now, items) (sym c.in-Some.ensures) (sym c.if-is_first_files.ensures)) c.with_files.ensures.told
-
-pub returns-then-is_first_pap-clause-told : goal.returns-then-is_first_pap-clause-told
-returns-then-is_first_pap-clause-told g c =
-    let node = c.args.node.now in
-    let items = c.in-Some.items.now in
-    FindsIn-pure c.args.dir.now (λ sources. with_module sources c.args.dict.now c.args.known node) c.with_pap.result (with_pap c.args.known items) (g.F.Files.told c.args.files.now)
-    (λ sources. is_pap sources c.args.dict.now c.args.known node (c.in-Some.kind.now, items) (sym c.in-Some.ensures) (sym c.if-is_first_files.ensures) (sym c.if-is_first_pap.ensures)) c.with_pap.ensures
+    FindsIn-pure c.args.dir.now (λ sources. with_module sources c.args.dict.now c.args.known node) (Ok c.args.known) (Ok c.args.known) (g.F.Files.told c.args.files.now)
+    (λ sources. ap (λ (b : Option (List ℕ × List ℕ × List Node)). elim b as (λ _. Result Modules BuildFault) [ None ↦ Ok c.args.known | Some block ↦ with_instance sources c.args.dict.now c.args.known node.place block.0 block.1 block.2 ]) (sym c.in_default.ensures)) refl
 
 pub returns-clause-told : goal.returns-clause-told
+unfolding with_module
 returns-clause-told g c =
     let node = c.args.node.now in
-    let items = c.in-Some.items.now in
-    FindsIn-pure c.args.dir.now (λ sources. with_module sources c.args.dict.now c.args.known node) c.refuse-2.result (refused node.place) (g.F.Files.told c.args.files.now)
-    (λ sources. is_neither sources c.args.dict.now c.args.known node (c.in-Some.kind.now, items) (sym c.in-Some.ensures) (sym c.if-is_first_files.ensures) (sym c.if-is_first_pap.ensures)) c.refuse-2.ensures
+    FindsIn-same c.args.dir.now (λ sources. with_instance sources c.args.dict.now c.args.known node.place c.in-Some.kind.now c.in-Some.name.now c.in-Some.items.now) (λ sources. with_module sources c.args.dict.now c.args.known node) c.with_instance.result (g.F.Files.told c.args.files.now) (g.F.Files.told c.with_instance.new.files)
+    (λ sources. ap (λ (b : Option (List ℕ × List ℕ × List Node)). elim b as (λ _. Result Modules BuildFault) [ None ↦ Ok c.args.known | Some block ↦ with_instance sources c.args.dict.now c.args.known node.place block.0 block.1 block.2 ]) c.in-Some.ensures) c.with_instance.ensures.told

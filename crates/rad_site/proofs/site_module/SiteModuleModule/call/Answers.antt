@@ -1,0 +1,13 @@
+use Rattle.rad_site.proofs.site_module.SiteModuleModule.call.Goals as goal
+
+pub returns-in-Always-clause-memory : goal.returns-in-Always-clause-memory
+returns-in-Always-clause-memory g c = rw c.in-Always.is c.call.ensures.memory
+
+pub returns-in-Files-clause-memory : goal.returns-in-Files-clause-memory
+returns-in-Files-clause-memory g c = rw c.in-Files.is c.call-in-Files.ensures.memory
+
+pub returns-in-Pap-clause-memory : goal.returns-in-Pap-clause-memory
+returns-in-Pap-clause-memory g c = rw c.in-Pap.is c.call-in-Pap.ensures.memory
+
+pub returns-in-Chap-clause-memory : goal.returns-in-Chap-clause-memory
+returns-in-Chap-clause-memory g c = rw c.in-Chap.is c.call-in-Chap.ensures.memory

@@ -1,0 +1,69 @@
+-- The virtual servers of a configuration, `server NAME { listen { .. } sections }`: their names and their listeners. What
+-- stands in their sections is read behind them. After the manual page radiusd.conf(5).
+use Rattle.std.specs.Prelude.{ℕ, Bool, true, false, ◌&&◌, List, [], ◌∷◌, ◌++◌, length, nat_lt, Some, None, Result, Ok, codes, if◌then◌else◌}
+use Rattle.std.specs.List.{list_any}
+use Rattle.std.specs.Option.{is_none}
+use Rattle.std.specs.Str.{bytes_eq}
+use Rattle.rad_outside.specs.declared.files.Place.{Place}
+use Rattle.rad_outside.specs.declared.listen.ListenKind.{ListenKind}
+use Rattle.rad_outside.specs.declared.listen.ListenKind.TheVariants as listen
+use Rattle.rad_conf.specs.declared.tree.Node.{Node}
+use Rattle.rad_site.specs.declared.fault.BuildFault.{BuildFault}
+use Rattle.rad_site.specs.declared.build.listen.Bound.{Bound}
+use Rattle.rad_site.specs.declared.build.servers.Listener.{Listener}
+use Rattle.rad_site.specs.declared.build.servers.Servers.{Servers}
+use Rattle.rad_site.specs.Nodes.{◌>>=◌, refused, bad_setting, formed, after_each}
+use Rattle.rad_site.specs.Items.{is_block, nodes_of, named_block}
+use Rattle.rad_site.specs.ListenBlock.{listener_of}
+
+-- Before the first server there are no names and no listener.
+abbrev pub no_servers : Servers
+no_servers = record { names = []; listener = None }
+
+-- A server of this name stands.
+abbrev pub has_name : List ℕ → List (List ℕ) → Bool
+has_name name names = list_any (λ (one : List ℕ). bytes_eq one name) names
+
+-- Listeners of this kind are built, each site having one.
+abbrev pub is_built : ListenKind → Bool
+is_built listen.Auth = true
+is_built listen.Acct = false
+is_built listen.Control = false
+
+-- The servers with a listener of the server of a name. A second one, and one that isn't built, is refused at its block.
+unfoldable pub and_listener : Servers → List ℕ → Place → Bound → Result Servers BuildFault
+and_listener known name place bound =
+    if is_built bound.kind && is_none known.listener then Ok (record known { listener = Some (record { server = name; at = bound.at }) })
+    else refused place
+
+-- The servers after one more item of the server of a name: one that is no block `listen` is passed over.
+unfoldable pub with_item : List ℕ → Servers → Node → Result Servers BuildFault
+with_item name known node =
+    if is_block (codes "listen") node
+    then (listener_of node.place (nodes_of (codes "listen") node) >>= λ bound. and_listener known name node.place bound)
+    else Ok known
+
+-- The servers with one more name.
+abbrev pub and_name : Servers → List ℕ → Servers
+and_name known name = record known { names = known.names ++ name ∷ [] }
+
+-- There may be 64 servers. One more is refused by its name, behind what stands in its block.
+unfoldable pub few_enough : Place → List ℕ → Servers → Result Servers BuildFault
+few_enough place name known = if nat_lt 64 (length known.names) then bad_setting place name else Ok known
+
+-- The servers with that of a name and items. A second one of a name is refused by it.
+unfoldable pub with_named : Servers → Place → List ℕ × List Node → Result Servers BuildFault
+with_named known place block =
+    if has_name block.0 known.names then bad_setting place block.0
+    else (after_each (with_item block.0) (and_name known block.0) block.1 >>= λ next. few_enough place block.0 next)
+
+-- The servers after one more item of the top: one that is no server is passed over.
+unfoldable pub with_server : Servers → Node → Result Servers BuildFault
+with_server known node =
+    if is_block (codes "server") node
+    then (formed node.place (codes "server") (named_block node) >>= λ block. with_named known node.place block)
+    else Ok known
+
+-- The servers of a configuration.
+abbrev pub servers_in : List Node → Result Servers BuildFault
+servers_in nodes = after_each with_server no_servers nodes

@@ -1,0 +1,192 @@
+//! The virtual servers of a configuration: their names and their listeners.
+
+ghost use Rattle.std.specs.Prelude.{◌≡◌, Ok};
+ghost use Rattle.std.specs.Str.{bytes_eq};
+ghost use Rattle.rad_site.specs.Nodes.{Gives, after_each};
+ghost use Rattle.rad_site.specs.ServerBlocks.{has_name, is_built, and_listener, with_item, and_name, few_enough, with_named, with_server, servers_in};
+
+use crate::build::item::{is_block, named_block, nodes_of};
+use crate::build::listen::{Bound, listener_of};
+use crate::build::refusal::{refuse, refuse_setting};
+use crate::fault::BuildFault;
+use rad_conf::Node;
+use rad_outside::{ListenKind, Octets, Peer, Place};
+use sqlite_items::Items;
+use std::alloc::Global;
+
+/// The most servers of a site.
+const MOST_SERVERS: usize = 64;
+
+/// A listener: the name of its server, and where it is bound.
+#[derive(Debug, Drop)]
+pub(crate) struct Listener {
+    pub(crate) server: Octets,
+    pub(crate) at: Peer,
+}
+
+/// What is known of the servers: their names in order, and their one listener.
+#[derive(Debug, Drop)]
+pub(crate) struct Servers {
+    names: Items<Octets>,
+    listener: Option<Listener>,
+}
+
+impl Servers {
+    /// Their one listener, if they have it.
+    pub(crate) fn into_listener(self) -> Option<Listener>
+        ensures { result ≡ self.listener }
+    {
+        let Servers { names: _, listener } = self;
+        listener
+    }
+}
+
+fn is_same(one: &Octets, name: &[u8]) -> bool
+    ensures { result ≡ bytes_eq one.now name.now }
+{
+    one.as_slice() == name
+}
+
+/// Whether a server of this name stands.
+fn has_name(name: &[u8], names: &[Octets]) -> bool
+    ensures { result ≡ has_name name.now names.now }
+{
+    names.iter().any(|one| is_same(one, name))
+}
+
+/// Whether listeners of this kind are built.
+fn is_built(kind: ListenKind) -> bool
+    ensures { result ≡ is_built kind }
+{
+    match kind {
+        ListenKind::Auth => true,
+        ListenKind::Acct | ListenKind::Control => false,
+    }
+}
+
+/// The servers with a listener of the server of a name.
+#[tactic(auto, unfolding(crate::specs::ServerBlocks::and_listener))]
+fn and_listener(
+    alloc: Global,
+    known: Servers,
+    name: &[u8],
+    place: &Place,
+    bound: Bound,
+) -> Result<Servers, BuildFault>
+    ensures { Gives result (and_listener known name.now place.now bound) }
+{
+    if !is_built(bound.kind) || known.listener.is_some() {
+        return refuse(alloc, place);
+    }
+    let server = Octets::of(alloc, name)?;
+    Ok(Servers {
+        names: known.names,
+        listener: Some(Listener {
+            server,
+            at: bound.at,
+        }),
+    })
+}
+
+/// The servers after one more item of the server of a name.
+#[tactic(auto, unfolding(crate::specs::ServerBlocks::with_item))]
+fn with_item(alloc: Global, name: &[u8], known: Servers, node: &Node) -> Result<Servers, BuildFault>
+    ensures { Gives result (with_item name.now known node.now) }
+{
+    if !is_block(b"listen", node) {
+        return Ok(known);
+    }
+    let bound = listener_of(alloc, &node.place, nodes_of(b"listen", node))?;
+    and_listener(alloc, known, name, &node.place, bound)
+}
+
+/// The servers after the items of the server of a name.
+fn with_items(
+    alloc: Global,
+    name: &[u8],
+    known: Servers,
+    items: &[Node],
+) -> Result<Servers, BuildFault>
+    ensures { Gives result (after_each (with_item name.now) known items.now) }
+{
+    let mut known = known;
+    for item in items {
+        known = with_item(alloc, name, known, item)?;
+    }
+    Ok(known)
+}
+
+/// The servers with one more name.
+fn and_name(alloc: Global, known: Servers, name: &[u8]) -> Result<Servers, BuildFault>
+    ensures { Gives result (Ok (and_name known name.now)) }
+{
+    let Servers {
+        mut names,
+        listener,
+    } = known;
+    names.push(Octets::of(alloc, name)?)?;
+    Ok(Servers { names, listener })
+}
+
+/// The servers, where there are at most 64; else the last one is refused.
+#[tactic(auto, unfolding(crate::specs::ServerBlocks::few_enough))]
+fn few_enough(
+    alloc: Global,
+    place: &Place,
+    name: &[u8],
+    known: Servers,
+) -> Result<Servers, BuildFault>
+    ensures { Gives result (few_enough place.now name.now known) }
+{
+    if known.names.len() > MOST_SERVERS {
+        return refuse_setting(alloc, place, name);
+    }
+    Ok(known)
+}
+
+/// The servers with that of a name and items.
+#[tactic(auto, unfolding(crate::specs::ServerBlocks::with_named))]
+fn with_named(
+    alloc: Global,
+    known: Servers,
+    place: &Place,
+    name: &[u8],
+    items: &[Node],
+) -> Result<Servers, BuildFault>
+    ensures { Gives result (with_named known place.now (name.now, items.now)) }
+{
+    if has_name(name, known.names.as_slice()) {
+        return refuse_setting(alloc, place, name);
+    }
+    let known = and_name(alloc, known, name)?;
+    let known = with_items(alloc, name, known, items)?;
+    few_enough(alloc, place, name, known)
+}
+
+/// The servers after one more item of the top.
+#[tactic(auto, unfolding(crate::specs::ServerBlocks::with_server))]
+fn with_server(alloc: Global, known: Servers, node: &Node) -> Result<Servers, BuildFault>
+    ensures { Gives result (with_server known node.now) }
+{
+    if !is_block(b"server", node) {
+        return Ok(known);
+    }
+    let Some((name, items)) = named_block(node) else {
+        return refuse_setting(alloc, &node.place, b"server");
+    };
+    with_named(alloc, known, &node.place, name, items)
+}
+
+/// The servers of a configuration.
+pub(crate) fn servers_in(alloc: Global, nodes: &[Node]) -> Result<Servers, BuildFault>
+    ensures { Gives result (servers_in nodes.now) }
+{
+    let mut known = Servers {
+        names: Items::new(alloc),
+        listener: None,
+    };
+    for node in nodes {
+        known = with_server(alloc, known, node)?;
+    }
+    Ok(known)
+}

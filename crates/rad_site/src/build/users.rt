@@ -1,0 +1,110 @@
+//! The users file that a module names.
+
+ghost use Rattle.std.specs.Prelude.{◌≡◌, Some, codes};
+ghost use Rattle.rad_outside.specs.Telling.{Counts};
+ghost use Rattle.rad_site.specs.Nodes.{Gives};
+ghost use Rattle.rad_site.specs.Items.{pair_named};
+ghost use Rattle.rad_site.specs.Sources.{FindsIn};
+ghost use Rattle.rad_site.specs.ModulesBlock.{users_in, users_at, filename_at, users_by};
+
+use crate::build::item::{pair_named, setting_of};
+use crate::build::path::file_path;
+use crate::build::refusal::refuse_setting;
+use crate::fault::BuildFault;
+use mod_files::{Users, UsersFault};
+use rad_conf::Node;
+use rad_dict::Dict;
+use rad_outside::{Files, Found, Octets, Place};
+use std::alloc::Global;
+
+/// The most octets of a users file: 4 MiB.
+const LONGEST: usize = 4_194_304;
+
+/// The setting that names the file.
+const FILENAME: &[u8] = b"filename";
+
+/// The users of a file's octets, which are refused at a place where they are too many.
+fn users_in(
+    alloc: Global,
+    dict: &Dict,
+    place: &Place,
+    name: &[u8],
+    text: &[u8],
+) -> Result<Users, BuildFault>
+    ensures { Gives result (users_in dict.now place.now name.now (Some text.now)) }
+{
+    if text.len() > LONGEST {
+        return refuse_setting(alloc, place, FILENAME);
+    }
+    match Users::read(alloc, text, dict) {
+        Ok(users) => Ok(users),
+        Err(UsersFault::NotBuilt(line)) => Err(BuildFault::Users(
+            Octets::of(alloc, name)?,
+            UsersFault::NotBuilt(line),
+        )),
+        Err(UsersFault::NoMemory) => Err(BuildFault::NoMemory),
+    }
+}
+
+/// The users of the file of a name, which is UTF-8. A missing file is refused at the place of its setting.
+#[tactic(auto, unfolding(crate::specs::ModulesBlock::users_at))]
+fn users_at<F: Files>(
+    alloc: Global,
+    files: &mut F,
+    dir: &str,
+    dict: &Dict,
+    place: &Place,
+    name: &[u8],
+) -> Result<Users, BuildFault>
+    ensures told { FindsIn dir.now (λ sources. users_at sources dict.now place.now name.now) result
+        (F.told files.old) (F.told files.new) }
+    ensures faults { Counts (F.faults files.old) (F.faults files.new) (result ≡ Err BuildFault.ReadFault) }
+{
+    let Ok(file) = str::from_utf8(name) else {
+        return refuse_setting(alloc, place, FILENAME);
+    };
+    let path = file_path(alloc, dir, file)?;
+    match files.read(alloc, path.as_str()) {
+        Found::Bytes(octets) => users_in(alloc, dict, place, name, octets.as_slice()),
+        Found::Missing => refuse_setting(alloc, place, FILENAME),
+        Found::Failed => Err(BuildFault::ReadFault),
+        Found::NoMemory => Err(BuildFault::NoMemory),
+    }
+}
+
+/// The users of the setting `filename = NAME`.
+fn filename_at<F: Files>(
+    alloc: Global,
+    files: &mut F,
+    dir: &str,
+    dict: &Dict,
+    node: &Node,
+) -> Result<Users, BuildFault>
+    ensures told { FindsIn dir.now (λ sources. filename_at sources dict.now node.now) result
+        (F.told files.old) (F.told files.new) }
+    ensures faults { Counts (F.faults files.old) (F.faults files.new) (result ≡ Err BuildFault.ReadFault) }
+{
+    let Some((_, value)) = setting_of(node) else {
+        return refuse_setting(alloc, &node.place, FILENAME);
+    };
+    users_at(alloc, files, dir, dict, &node.place, value)
+}
+
+/// The users of the first setting `filename` of a block at this place.
+pub(crate) fn users_by<F: Files>(
+    alloc: Global,
+    files: &mut F,
+    dir: &str,
+    dict: &Dict,
+    place: &Place,
+    items: &[Node],
+) -> Result<Users, BuildFault>
+    ensures told { FindsIn dir.now (λ sources. users_by sources dict.now place.now (pair_named (codes "filename") items.now)) result
+        (F.told files.old) (F.told files.new) }
+    ensures faults { Counts (F.faults files.old) (F.faults files.new) (result ≡ Err BuildFault.ReadFault) }
+{
+    match pair_named(FILENAME, items) {
+        None => refuse_setting(alloc, place, FILENAME),
+        Some(node) => filename_at(alloc, files, dir, dict, node),
+    }
+}

@@ -1,0 +1,27 @@
+use crate::site_module::SiteModule;
+use mod_base::Stack;
+use std::marker::Model;
+use unlang_code::Table;
+
+/// The policies of a site: its modules, and the table of its servers' sections. Each call of the table is of a module that
+/// is there and has a method for the section.
+#[derive(Drop)]
+pub(crate) struct Policies {
+    pub(crate) stack: Stack<SiteModule>,
+    pub(crate) table: Table,
+}
+
+impl Model for Policies {
+    ghost use Rattle.unlang_code.specs.Serving.{Serves};
+    ghost use Rattle.rad_site.specs.Policies.{Policies};
+    ghost use Rattle.rad_site.specs.SiteModules.{site_module};
+
+    ghost Value = { Policies };
+
+    ghost view = { λ p. record {
+      stack = p.stack;
+      table = p.table;
+    } };
+
+    ghost invariant = { λ p. Serves site_module p.stack p.table };
+}
