@@ -1,6 +1,6 @@
 -- The items of a configuration by their form. After the manual page radiusd.conf(5).
 use Rattle.std.specs.Prelude.{ℕ, Bool, false, ◌||◌, List, [], ◌∷◌, find, Option, Some, None, codes, if◌then◌else◌}
-use Rattle.std.specs.Str.{bytes_eq}
+use Rattle.std.specs.Str.{bytes_eq, str_eq_ignore_ascii_case}
 use Rattle.rad_conf.specs.declared.tree.Node.{Node}
 use Rattle.rad_conf.specs.declared.tree.Item.{out-Item}
 use Rattle.rad_conf.specs.declared.tree.Item.TheOpen as level
@@ -55,6 +55,14 @@ is_block wanted node = elim (out-Item node.item) [
   | level.Pair left operator right ↦ false
   | level.Name word ↦ false
   | level.Block kind name body ↦ bytes_eq kind.text wanted
+]
+
+-- Whether an item is a block of this kind, in any case of its ASCII letters, as sections are named.
+abbrev pub is_section : List ℕ → Node → Bool
+is_section wanted node = elim (out-Item node.item) [
+  | level.Pair left operator right ↦ false
+  | level.Name word ↦ false
+  | level.Block kind name body ↦ str_eq_ignore_ascii_case kind.text wanted
 ]
 
 -- The name and the nodes of a block that has a name.

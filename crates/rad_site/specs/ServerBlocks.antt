@@ -1,6 +1,6 @@
 -- The virtual servers of a configuration, `server NAME { listen { .. } sections }`: their names and their listeners. What
 -- stands in their sections is read behind them. After the manual page radiusd.conf(5).
-use Rattle.std.specs.Prelude.{ℕ, Bool, true, false, ◌&&◌, List, [], ◌∷◌, ◌++◌, length, nat_lt, Some, None, Result, Ok, codes, if◌then◌else◌}
+use Rattle.std.specs.Prelude.{ℕ, Bool, true, false, ◌&&◌, ◌||◌, List, [], ◌∷◌, ◌++◌, length, nat_lt, Some, None, Result, Ok, codes, if◌then◌else◌}
 use Rattle.std.specs.List.{list_any}
 use Rattle.std.specs.Option.{is_none}
 use Rattle.std.specs.Str.{bytes_eq}
@@ -13,7 +13,7 @@ use Rattle.rad_site.specs.declared.build.listen.Bound.{Bound}
 use Rattle.rad_site.specs.declared.build.servers.Listener.{Listener}
 use Rattle.rad_site.specs.declared.build.servers.Servers.{Servers}
 use Rattle.rad_site.specs.Nodes.{◌>>=◌, refused, bad_setting, formed, after_each}
-use Rattle.rad_site.specs.Items.{is_block, nodes_of, named_block}
+use Rattle.rad_site.specs.Items.{is_block, is_section, nodes_of, named_block}
 use Rattle.rad_site.specs.ListenBlock.{listener_of}
 
 -- Before the first server there are no names and no listener.
@@ -36,12 +36,20 @@ and_listener known name place bound =
     if is_built bound.kind && is_none known.listener then Ok (record known { listener = Some (record { server = name; at = bound.at }) })
     else refused place
 
--- The servers after one more item of the server of a name: one that is no block `listen` is passed over.
+-- Sections that no request runs yet: they are refused, so that none is passed over in silence.
+abbrev pub is_later : Node → Bool
+is_later node = is_section (codes "session") node || is_section (codes "preacct") node || is_section (codes "accounting") node || is_section (codes "post-auth") node
+
+-- The servers with the listener of a block of the server of a name.
+abbrev pub with_listen : List ℕ → Servers → Node → Result Servers BuildFault
+with_listen name known node = listener_of node.place (nodes_of (codes "listen") node) >>= λ bound. and_listener known name node.place bound
+
+-- The servers after one more item of the server of a name: one that is neither a block `listen` nor a section that isn't run
+-- yet is passed over.
 unfoldable pub with_item : List ℕ → Servers → Node → Result Servers BuildFault
 with_item name known node =
-    if is_block (codes "listen") node
-    then (listener_of node.place (nodes_of (codes "listen") node) >>= λ bound. and_listener known name node.place bound)
-    else Ok known
+    if is_later node then refused node.place
+    else (if is_block (codes "listen") node then with_listen name known node else Ok known)
 
 -- The servers with one more name.
 abbrev pub and_name : Servers → List ℕ → Servers

@@ -2,7 +2,7 @@
 
 ghost use Rattle.std.specs.Prelude.{◌≡◌};
 ghost use Rattle.std.specs.Option.{option_map, option_copied};
-ghost use Rattle.rad_site.specs.Items.{is_assignment, pair_of, setting_of, is_pair_of, pair_named, nodes_of, is_block, named_block};
+ghost use Rattle.rad_site.specs.Items.{is_assignment, pair_of, setting_of, is_pair_of, pair_named, nodes_of, is_block, is_section, named_block};
 
 use rad_conf::{Item, Node};
 
@@ -88,6 +88,17 @@ pub(crate) fn is_block(wanted: &[u8], node: &Node) -> bool
         Item::Pair(_, _, _) => false,
         Item::Name(_) => false,
         Item::Block(kind, _, _) => kind.text.as_slice() == wanted,
+    }
+}
+
+/// Whether an item is a block of this kind, in any case of its ASCII letters.
+pub(crate) fn is_section(wanted: &[u8], node: &Node) -> bool
+    ensures { result ≡ is_section wanted.now node.now }
+{
+    match &node.item {
+        Item::Pair(_, _, _) => false,
+        Item::Name(_) => false,
+        Item::Block(kind, _, _) => kind.text.as_slice().eq_ignore_ascii_case(wanted),
     }
 }
 

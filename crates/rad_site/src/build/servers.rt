@@ -3,9 +3,9 @@
 ghost use Rattle.std.specs.Prelude.{◌≡◌, Ok};
 ghost use Rattle.std.specs.Str.{bytes_eq};
 ghost use Rattle.rad_site.specs.Nodes.{Gives, after_each};
-ghost use Rattle.rad_site.specs.ServerBlocks.{has_name, is_built, and_listener, with_item, and_name, few_enough, with_named, with_server, servers_in};
+ghost use Rattle.rad_site.specs.ServerBlocks.{has_name, is_built, and_listener, is_later, with_listen, with_item, and_name, few_enough, with_named, with_server, servers_in};
 
-use crate::build::item::{is_block, named_block, nodes_of};
+use crate::build::item::{is_block, is_section, named_block, nodes_of};
 use crate::build::listen::{Bound, listener_of};
 use crate::build::refusal::{refuse, refuse_setting};
 use crate::fault::BuildFault;
@@ -88,16 +88,42 @@ fn and_listener(
     })
 }
 
+/// Whether an item is a section that no request runs yet.
+fn is_later(node: &Node) -> bool
+    ensures { result ≡ is_later node.now }
+{
+    is_section(b"session", node)
+        || is_section(b"preacct", node)
+        || is_section(b"accounting", node)
+        || is_section(b"post-auth", node)
+}
+
+/// The servers with the listener of a block of the server of a name.
+fn with_listen(
+    alloc: Global,
+    name: &[u8],
+    known: Servers,
+    node: &Node,
+) -> Result<Servers, BuildFault>
+    ensures { Gives result (with_listen name.now known node.now) }
+{
+    let bound = listener_of(alloc, &node.place, nodes_of(b"listen", node))?;
+    and_listener(alloc, known, name, &node.place, bound)
+}
+
 /// The servers after one more item of the server of a name.
 #[tactic(auto, unfolding(crate::specs::ServerBlocks::with_item))]
 fn with_item(alloc: Global, name: &[u8], known: Servers, node: &Node) -> Result<Servers, BuildFault>
     ensures { Gives result (with_item name.now known node.now) }
 {
-    if !is_block(b"listen", node) {
-        return Ok(known);
+    if is_later(node) {
+        return refuse(alloc, &node.place);
     }
-    let bound = listener_of(alloc, &node.place, nodes_of(b"listen", node))?;
-    and_listener(alloc, known, name, &node.place, bound)
+    if is_block(b"listen", node) {
+        with_listen(alloc, name, known, node)
+    } else {
+        Ok(known)
+    }
 }
 
 /// The servers after the items of the server of a name.
