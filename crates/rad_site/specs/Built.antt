@@ -22,6 +22,8 @@ use Rattle.rad_site.specs.Items.{is_block}
 use Rattle.rad_site.specs.ConfFault.{of_conf}
 use Rattle.rad_site.specs.DictFault.{of_dict}
 use Rattle.rad_site.specs.ClientBlock.{client_at}
+use Rattle.rad_site.specs.declared.settings.Settings.{Settings}
+use Rattle.rad_site.specs.Settings.{settings_in}
 use Rattle.rad_site.specs.TreeFault.{of_tree}
 use Rattle.rad_site.specs.Modules.{Modules}
 use Rattle.rad_site.specs.ModulesBlock.{modules_in}
@@ -76,11 +78,19 @@ clients_in nodes = do
 unfoldable pub policies_in : Definitions → Modules → List Node → Result Policies BuildFault
 policies_in dict modules nodes = of_tree (policies_of nodes dict modules.instances) >>= λ table. Ok (record { stack = modules.stack; table = table })
 
--- The site with this dictionary, these clients, these policies and this listener.
-abbrev pub site_with : Definitions → List Client → Policies × Listener → Site
-site_with dict clients parts = record {
+-- What stands before the modules: the settings, and then the clients.
+unfoldable pub front_in : List Node → Result (Settings × List Client) BuildFault
+front_in nodes = do
+  settings ← settings_in nodes
+  clients ← clients_in nodes
+  Ok (settings, clients)
+
+-- The site with this dictionary, these settings and clients, these policies and this listener.
+abbrev pub site_with : Definitions → Settings × List Client → Policies × Listener → Site
+site_with dict front parts = record {
   dict = dict;
-  clients = clients;
+  settings = front.0;
+  clients = front.1;
   policies = parts.0;
   server = parts.1.server;
   at = parts.1.at;
@@ -96,16 +106,16 @@ parts_in dict modules nodes = do
   Ok (policies, listener)
 
 -- The site behind its modules.
-unfoldable pub site_behind : Definitions → List Client → Modules → List Node → Result Site BuildFault
-site_behind dict clients modules nodes = parts_in dict modules nodes >>= λ parts. Ok (site_with dict clients parts)
+unfoldable pub site_behind : Definitions → Settings × List Client → Modules → List Node → Result Site BuildFault
+site_behind dict front modules nodes = parts_in dict modules nodes >>= λ parts. Ok (site_with dict front parts)
 
--- The site of a whole configuration with this dictionary: its clients, its modules with their files, and its servers with
+-- The site of a whole configuration with this dictionary: its settings, its clients, its modules with their files, and its servers with
 -- their policies.
 unfoldable pub site_of : Sources → Definitions → List Node → Result Site BuildFault
 site_of sources dict nodes = do
-  clients ← clients_in nodes
+  front ← front_in nodes
   modules ← modules_in sources dict nodes
-  site_behind dict clients modules nodes
+  site_behind dict front modules nodes
 
 -- The dictionary of a site: its file `dictionary`, and the base alone where that is missing.
 unfoldable pub dict_at : Sources → Result Definitions BuildFault

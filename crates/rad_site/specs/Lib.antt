@@ -13,6 +13,7 @@ pub mod Sources
 pub mod Nodes
 pub mod Items
 pub mod Numbers
+pub mod Settings
 pub mod ClientBlock
 pub mod Modules
 pub mod ModulesBlock

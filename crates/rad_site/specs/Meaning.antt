@@ -6,7 +6,7 @@ use Rattle.rad_site.specs.Site.{Site}
 use Rattle.rad_site.specs.Built.{built}
 use Rattle.rad_site.specs.Request.{client_of, has_server_of, access_of}
 
--- The meaning of a site. A full table has 16,384 requests, and a reply is kept for 5 seconds.
+-- The meaning of a site: how many requests a full table has and how long a reply is kept are settings.
 abbrev pub site_meaning : Meaning Site BuildFault
 site_meaning = record {
   built = built;
@@ -14,7 +14,7 @@ site_meaning = record {
   read_fault = fault.ReadFault;
   client = client_of;
   has_server = has_server_of;
-  max_requests = λ site. 16384;
-  cleanup_delay = λ site. 5;
+  max_requests = λ site. site.settings.max_requests;
+  cleanup_delay = λ site. site.settings.cleanup_delay;
   access = access_of;
 }

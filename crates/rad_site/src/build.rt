@@ -12,6 +12,7 @@ mod path;
 mod policies;
 mod refusal;
 mod servers;
+mod settings;
 mod site;
 mod text;
 mod users;

@@ -1,16 +1,18 @@
 ghost use Rattle.std.specs.Prelude.{◌≡◌};
 
 use crate::policies::Policies;
+use crate::settings::Settings;
 use rad_clients::Clients;
 use rad_dict::Dict;
 use rad_outside::{Octets, Peer};
 use std::marker::Model;
 
-/// A generation of a site: a dictionary, the clients, the modules and the servers' sections that call them, and one auth
+/// A generation of a site: a dictionary, the settings, the clients, the modules and the servers' sections that call them, and one auth
 /// listener.
 #[derive(Drop)]
 pub struct Generation {
     pub(crate) dict: Dict,
+    pub(crate) settings: Settings,
     pub(crate) clients: Clients,
     pub(crate) policies: Policies,
     pub(crate) server: Octets,
@@ -24,6 +26,7 @@ impl Model for Generation {
 
     ghost view = { λ g. record {
       dict = g.dict;
+      settings = g.settings;
       clients = g.clients;
       policies = g.policies;
       server = g.server;

@@ -16,6 +16,7 @@ mod laws;
 mod policies;
 mod policy;
 mod reply;
+mod settings;
 mod site_module;
 mod verdict;
 
@@ -24,5 +25,6 @@ pub use fault::BuildFault;
 pub use files_module::FilesModule;
 pub use generation::Generation;
 pub use laws::passwords_let_requests_in;
+pub use settings::Settings;
 pub use site_module::SiteModule;
 pub use unlang_tree::TreeFault;

@@ -46,11 +46,11 @@ impl Policy for Generation {
     }
 
     fn max_requests(&self) -> u32 {
-        16384
+        self.settings.max_requests
     }
 
     fn cleanup_delay(&self) -> u32 {
-        5
+        self.settings.cleanup_delay
     }
 
     fn access<S: Shelf>(

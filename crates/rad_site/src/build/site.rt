@@ -6,7 +6,7 @@ ghost use Rattle.std.specs.Option.{option_copied};
 ghost use Rattle.rad_outside.specs.Telling.{Counts};
 ghost use Rattle.rad_site.specs.Nodes.{Gives, bad_setting, after_each};
 ghost use Rattle.rad_site.specs.Sources.{FindsIn};
-ghost use Rattle.rad_site.specs.Built.{whole_conf, is_unbuilt, none_unbuilt, with_client, with_item, clients_in, parts_in, site_behind, site_of};
+ghost use Rattle.rad_site.specs.Built.{whole_conf, is_unbuilt, none_unbuilt, with_client, with_item, clients_in, front_in, parts_in, site_behind, site_of};
 
 use crate::build::client::client_at;
 use crate::build::instances::Modules;
@@ -15,9 +15,11 @@ use crate::build::modules::modules_in;
 use crate::build::policies::policies_in;
 use crate::build::refusal::{refuse, refuse_setting};
 use crate::build::servers::{Listener, servers_in};
+use crate::build::settings::settings_in;
 use crate::fault::BuildFault;
 use crate::generation::Generation;
 use crate::policies::Policies;
+use crate::settings::Settings;
 use rad_clients::Clients;
 use rad_conf::{Conf, Node};
 use rad_dict::Dict;
@@ -124,20 +126,32 @@ fn parts_in(
     }
 }
 
+/// The settings, and then the clients.
+#[tactic(auto, unfolding(crate::specs::Built::front_in))]
+fn front_in(alloc: Global, nodes: &[Node]) -> Result<(Settings, Clients), BuildFault>
+    ensures { Gives result (front_in nodes.now) }
+{
+    let settings = settings_in(alloc, nodes)?;
+    let clients = clients_in(alloc, nodes)?;
+    Ok((settings, clients))
+}
+
 /// The generation behind its modules.
 #[tactic(auto, unfolding(crate::specs::Built::site_behind))]
 fn site_behind(
     alloc: Global,
     dict: Dict,
-    clients: Clients,
+    front: (Settings, Clients),
     modules: Modules,
     conf: &Conf,
 ) -> Result<Generation, BuildFault>
-    ensures { Gives result (site_behind dict clients modules conf.now) }
+    ensures { Gives result (site_behind dict front modules conf.now) }
 {
     let (policies, listener) = parts_in(alloc, &dict, modules, conf)?;
+    let (settings, clients) = front;
     Ok(Generation {
         dict,
+        settings,
         clients,
         policies,
         server: listener.server,
@@ -158,7 +172,7 @@ pub(crate) fn site_of<F: Files>(
     ensures faults { Counts (F.faults files.old) (F.faults files.new) (result ≡ Err BuildFault.ReadFault) }
 {
     let nodes = conf.root().as_slice();
-    let clients = clients_in(alloc, nodes)?;
+    let front = front_in(alloc, nodes)?;
     let modules = modules_in(alloc, files, dir, &dict, nodes)?;
-    site_behind(alloc, dict, clients, modules, conf)
+    site_behind(alloc, dict, front, modules, conf)
 }
