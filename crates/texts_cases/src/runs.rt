@@ -5,7 +5,7 @@ use crate::users_files::{users_fault, users_in};
 use crate::values::{push_attribute, push_value};
 use mod_users::FilesModule;
 use rad_dict::Dict;
-use rad_outside::NoMemory;
+use rad_outside::{LAST_MOMENT, NoMemory};
 use rad_value::{ListName, Lists, Pair, Scope, Value};
 use shared_cases::{Case, Subject, push_number};
 use std::alloc::Global;
@@ -60,6 +60,9 @@ fn run(
     scope: &mut Scope,
     dict: &Dict,
 ) -> Result<Vec<u8>, NoMemory> {
+    if scope.moment > LAST_MOMENT {
+        return Ok(Vec::from_slice(alloc, b"a moment that is too late")?);
+    }
     let code = module.authorize(alloc, scope, dict)?;
     let mut text = format!(in alloc; "{code:?}")?.into_bytes();
     text.extend_from_slice(b", control ")?;
