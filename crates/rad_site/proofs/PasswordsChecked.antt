@@ -1,8 +1,8 @@
--- An accepted request has the password that is known.
+-- An accepted request has what the modules of authenticate ask for: the password that is known, or the answer to the challenge.
 use Rattle.std.specs.Prelude.{ok_or, slice_get, unwrap_or}
 use Rattle.std.specs.Option.{option_map, option_and_then}
 use Rattle.std.specs.Str.{str_eq_ignore_ascii_case}
-use Rattle.std.proofs.Common.{◌≡◌, ℕ, Bool, true, false, cond, List, [], ◌∷◌, Option, Some, None, Result, Ok, Err, codes, refl, sym, ap, subst, ◌∙◌}
+use Rattle.std.proofs.Common.{◌≡◌, ◌⊎◌, inl, inr, ℕ, Bool, true, false, cond, List, [], ◌∷◌, Option, Some, None, Result, Ok, Err, codes, refl, sym, ap, subst, ◌∙◌}
 use Rattle.rad_words.specs.declared.codes.Code.{Code}
 use Rattle.rad_words.specs.declared.codes.Code.TheVariants as code
 use Rattle.rad_words.specs.declared.sections.Section.{Section}
@@ -12,9 +12,8 @@ use Rattle.rad_value.specs.PairLists.{PairLists}
 use Rattle.rad_value.specs.declared.values.Pair.{Pair}
 use Rattle.rad_dict.specs.Definitions.{Definitions}
 use Rattle.mod_base.specs.Situation.{Situation}
-use Rattle.mod_auth.specs.LetsIn.{KnowsThePassword}
-use Rattle.mod_auth.specs.Pap as pap
-use Rattle.mod_auth.proofs.LetIn.{pap_lets_in}
+use Rattle.mod_auth.specs.LetsIn.{KnowsThePassword, HasTheDigest}
+use Rattle.mod_auth.proofs.LetIn.{pap_lets_in, chap_lets_in}
 use Rattle.unlang_tree.specs.declared.statement.Statement.{Statement}
 use Rattle.unlang_tree.specs.declared.statement.StatementKind.{StatementKind}
 use Rattle.unlang_tree.specs.declared.statement.StatementKind.TheVariants as kinds
@@ -32,7 +31,7 @@ use Rattle.rad_site.specs.declared.verdict.Verdict.{Verdict}
 use Rattle.rad_site.specs.declared.verdict.Verdict.TheVariants as verdict
 use Rattle.rad_site.specs.Access.{after_authorize, after_authenticate, section_named, route_of, done_in, authorized_by, authorized, decided_there, decided_behind, decided}
 use Rattle.rad_site.specs.Attributes.{auth_type}
-use Rattle.rad_site.specs.Passwords.{is_accept, NeverAccept, IsPapAlone, ChecksPasswords}
+use Rattle.rad_site.specs.Passwords.{is_accept, NeverAccept, IsPap, IsChap, IsPapOrChap, IsAlone, LetsInBy}
 use Rattle.rad_site.specs.Policies.{Policies}
 use Rattle.rad_site.specs.SiteModules.{site_module}
 use Rattle.rad_site.proofs.AuthTypes.{Never, leaves_never, first_is_other}
@@ -65,19 +64,28 @@ only_ok s code.Notfound is = absurd (cc)
 only_ok s code.Noop is = absurd (cc)
 only_ok s code.Updated is = absurd (cc)
 
-module _ (policies : Policies) (dict : Definitions) where
-  -- a section of `pap` alone
-  by_pap : (statements : List Statement) (s : Situation) → IsPapAlone policies.stack statements → after_authenticate (section_done site_module policies.stack dict Authenticate statements s).1 ≡ verdict.Accept
-      → pap.authenticated s.scope.lists ≡ code.Ok
-  by_pap statements s alone is =
+-- Where a module of this kind answers ok in authenticate, this is so of the Request Authenticator and the lists.
+abbrev Shows : Definitions → (SiteModule → Type 0) → (List ℕ → PairLists → Type 0) → Type 0
+Shows dict IsOfKind Has = (m : SiteModule) (s : Situation) → IsOfKind m → (site_module.does m dict Authenticate s).1 ≡ code.Ok → Has s.scope.authenticator s.scope.lists
+
+module _ (policies : Policies) (dict : Definitions) (IsOfKind : SiteModule → Type 0) (Has : List ℕ → PairLists → Type 0) (shows : Shows dict IsOfKind Has) where
+  -- It is so of a situation.
+  abbrev HasIn : Situation → Type 0
+  HasIn s = Has s.scope.authenticator s.scope.lists
+
+  -- a section of such a module alone
+  by_one : (statements : List Statement) (s : Situation) → IsAlone IsOfKind policies.stack statements → after_authenticate (section_done site_module policies.stack dict Authenticate statements s).1 ≡ verdict.Accept
+      → HasIn s
+  by_one statements s alone is =
       let started = in_scope (begun s.scope) s in
       let one = alone.statement in
-      let done = site_module.does (site.Pap alone.pap) dict Authenticate started in
+      let done = site_module.does alone.called dict Authenticate started in
       let piece : kind_done site_module policies.stack dict Authenticate one.kind started ≡ called_with Authenticate [] done =
       ap (λ (k : StatementKind). kind_done site_module policies.stack dict Authenticate k started) alone.calls
-      ∙ ap (λ (m : Option SiteModule). called_of site_module dict Authenticate [] m started) alone.is_pap in
+      ∙ ap (λ (m : Option SiteModule). called_of site_module dict Authenticate [] m started) alone.is_there in
       let accepted = subst (λ (all : List Statement). after_authenticate (section_done site_module policies.stack dict Authenticate all s).1 ≡ verdict.Accept) alone.alone is in
-      only_ok done.0 done.1 (subst (λ (p : Outcome). after_authenticate (of_piece p) ≡ verdict.Accept) piece accepted)
+      shows alone.called started alone.is_of_kind
+      (only_ok done.0 done.1 (subst (λ (p : Outcome). after_authenticate (of_piece p) ≡ verdict.Accept) piece accepted))
 
   found_kind : (section : Option SectionTree) (server : ℕ) (kind : Section) (name : List ℕ) (id : SectionId)
       → option_and_then (λ (tree : SectionTree). option_map (λ number. let one : SectionId = record { server = server; section = kind; sub = Some number } in one) (subsection_of tree.subsections name)) section ≡ Some id → id.section ≡ kind
@@ -92,14 +100,14 @@ module _ (policies : Policies) (dict : Definitions) where
   named_kind None kind name id is = absurd (cc)
   named_kind (Some number) kind name id is = found_kind (section_in policies.table number kind) number kind name id is
 
-  module _ (server : List ℕ) (checks : ChecksPasswords policies server) where
+  module _ (server : List ℕ) (checks : LetsInBy IsOfKind policies server) where
     by_statements : (name : List ℕ) (id : SectionId) (statements : Option (List Statement)) (s : Situation) → section_named policies.table server Authenticate (Some name) ≡ Some id → statements_of policies.table id ≡ statements
-        → after_authenticate (section_done site_module policies.stack dict Authenticate (unwrap_or statements []) s).1 ≡ verdict.Accept → pap.authenticated s.scope.lists ≡ code.Ok
+        → after_authenticate (section_done site_module policies.stack dict Authenticate (unwrap_or statements []) s).1 ≡ verdict.Accept → HasIn s
     by_statements name id None s named at is = absurd (cc)
-    by_statements name id (Some statements) s named at is = by_pap statements s (checks.pap_alone name id statements named at) is
+    by_statements name id (Some statements) s named at is = by_one statements s (checks.alone name id statements named at) is
 
     by_section : (name : List ℕ) (id : SectionId) (s : Situation) → section_named policies.table server Authenticate (Some name) ≡ Some id → after_authenticate (done_in policies dict id s).1 ≡ verdict.Accept
-        → pap.authenticated s.scope.lists ≡ code.Ok
+        → HasIn s
     unfolding section_named
     by_section name id s named is =
         by_statements name id (statements_of policies.table id) s named refl
@@ -107,23 +115,23 @@ module _ (policies : Policies) (dict : Definitions) where
         (named_kind (server_of policies.table server) Authenticate name id named) is)
 
     by_id : (name : List ℕ) (id : Option SectionId) (s : Situation) → section_named policies.table server Authenticate (Some name) ≡ id → (decided_there policies dict (ok_or id verdict.Reject) s).1 ≡ verdict.Accept
-        → pap.authenticated s.scope.lists ≡ code.Ok
+        → HasIn s
     by_id name None s named is = absurd (cc)
     by_id name (Some id) s named is = by_section name id s named is
 
     by_tests : (name : List ℕ) (accepts rejects : Bool) (s : Situation) → accepts ≡ false
         → (decided_there policies dict (cond accepts (Err verdict.Accept) (cond rejects (Err verdict.Reject) (ok_or (section_named policies.table server Authenticate (Some name)) verdict.Reject))) s).1 ≡ verdict.Accept
-        → pap.authenticated s.scope.lists ≡ code.Ok
+        → HasIn s
     by_tests name true rejects s other is = absurd (cc)
     by_tests name false true s other is = absurd (cc)
     by_tests name false false s other is = by_id name (section_named policies.table server Authenticate (Some name)) s refl is
 
     by_name : (named : Option (List ℕ)) (s : Situation) → ((name : List ℕ) → named ≡ Some name → is_accept name ≡ false)
-        → (decided_there policies dict (route_of policies.table server named) s).1 ≡ verdict.Accept → pap.authenticated s.scope.lists ≡ code.Ok
+        → (decided_there policies dict (route_of policies.table server named) s).1 ≡ verdict.Accept → HasIn s
     by_name None s other is = absurd (cc)
     by_name (Some name) s other is = by_tests name (str_eq_ignore_ascii_case name (codes "Accept")) (str_eq_ignore_ascii_case name (codes "Reject")) s (other name refl) is
 
-    behind : (so_far : Option Verdict) (s : Situation) → (so_far ≡ Some verdict.Accept → ⊥) → Never s.scope.lists → (decided_behind policies dict server so_far s).1 ≡ verdict.Accept → pap.authenticated s.scope.lists ≡ code.Ok
+    behind : (so_far : Option Verdict) (s : Situation) → (so_far ≡ Some verdict.Accept → ⊥) → Never s.scope.lists → (decided_behind policies dict server so_far s).1 ≡ verdict.Accept → HasIn s
     behind (Some answer) s never all is = absurd (never (ap (λ (v : Verdict). Some v) is))
     behind None s never all is = by_name (first_text auth_type s.scope.lists.control) s (λ name named. first_is_other s.scope.lists name all named) is
 
@@ -141,11 +149,34 @@ module _ (policies : Policies) (dict : Definitions) where
       never_at_once (done_in policies dict id s).1,
     )
 
-    -- An accepted request has the password that is known.
-    pub accepted_knows : (s : Situation) → s.scope.lists.control ≡ [] → (decided policies dict server s).1 ≡ verdict.Accept → KnowsThePassword (authorized policies dict server s).0.scope.lists
+    -- An accepted request has it, behind authorize.
+    pub accepted_has : (s : Situation) → s.scope.lists.control ≡ [] → (decided policies dict server s).1 ≡ verdict.Accept → HasIn (authorized policies dict server s).0
     unfolding decided
-    accepted_knows s empty is =
+    accepted_has s empty is =
         let done = authorized policies dict server s in
         let begins : Never s.scope.lists = rw empty tt in
         let kept = authorize_other (section_named policies.table server Authorize None) s refl begins in
-        (pap_lets_in done.0.scope.lists).0 (behind done.1 done.0 kept.1 kept.0 is)
+        behind done.1 done.0 kept.1 kept.0 is
+
+-- What `pap` and `chap` ask for.
+abbrev pub Knows : List ℕ → PairLists → Type 0
+Knows authenticator lists = KnowsThePassword lists
+
+abbrev pub KnowsOrHas : List ℕ → PairLists → Type 0
+KnowsOrHas authenticator lists = KnowsThePassword lists ⊎ HasTheDigest authenticator lists
+
+pub pap_shows : (dict : Definitions) → Shows dict IsPap Knows
+pap_shows dict (site.Always m) s is_pap is = absurd is_pap
+pap_shows dict (site.Files m) s is_pap is = absurd is_pap
+pap_shows dict (site.Pap m) s is_pap is = (pap_lets_in s.scope.lists).0 is
+pap_shows dict (site.Chap m) s is_pap is = absurd is_pap
+
+pub chap_shows : (dict : Definitions) → Shows dict IsChap HasTheDigest
+chap_shows dict (site.Always m) s is_chap is = absurd is_chap
+chap_shows dict (site.Files m) s is_chap is = absurd is_chap
+chap_shows dict (site.Pap m) s is_chap is = absurd is_chap
+chap_shows dict (site.Chap m) s is_chap is = (chap_lets_in s.scope.authenticator s.scope.lists).0 is
+
+pub either_shows : (dict : Definitions) → Shows dict IsPapOrChap KnowsOrHas
+either_shows dict m s (inl is_pap) is = inl (pap_shows dict m s is_pap is)
+either_shows dict m s (inr is_chap) is = inr (chap_shows dict m s is_chap is)

@@ -1,6 +1,6 @@
--- What a server must have so that passwords alone let requests in, and where a right one does. This project's own, after
--- FreeRADIUS' rlm_pap(5).
-use Rattle.std.specs.Prelude.{ℕ, ◌≡◌, Bool, false, ◌&&◌, List, [], ◌∷◌, Option, Some, None, slice_get, codes}
+-- What a server must have so that passwords, or answers to challenges, alone let requests in. This project's own, after
+-- FreeRADIUS' rlm_pap(5) and rlm_chap(5).
+use Rattle.std.specs.Prelude.{ℕ, ◌≡◌, ◌⊎◌, Bool, false, ◌&&◌, List, [], ◌∷◌, Option, Some, None, slice_get, codes}
 use Rattle.std.specs.Str.{str_eq_ignore_ascii_case}
 use Rattle.rad_words.specs.Attribute.{same_attr}
 use Rattle.rad_value.specs.declared.edits.Edit.{Edit}
@@ -8,7 +8,6 @@ use Rattle.rad_value.specs.declared.edits.ListName.TheVariants.{Control}
 use Rattle.rad_value.specs.declared.values.Value.{Value}
 use Rattle.rad_value.specs.Pairs.{text_of}
 use Rattle.rad_words.specs.declared.sections.Section.TheVariants.{Authorize, Authenticate}
-use Rattle.mod_auth.specs.declared.pap.Pap.{Pap}
 use Rattle.unlang_tree.specs.declared.statement.Call.{Call}
 use Rattle.unlang_tree.specs.declared.statement.Statement.{Statement}
 use Rattle.unlang_tree.specs.declared.statement.StatementKind.TheVariants as kind
@@ -57,19 +56,48 @@ leaf_accepts stack (Edits edit) = edit_accepts edit
 abbrev pub NeverAccept : List SiteModule → List Statement → Type 0
 NeverAccept stack statements = EachLeaf (λ leaf. leaf_accepts stack leaf ≡ false) statements
 
--- The statements are one call of an instance of `pap`, with no actions of its own.
-pub record IsPapAlone (stack : List SiteModule) (statements : List Statement) : Type 0 where
+-- A module is an instance of `pap`.
+abbrev pub IsPap : SiteModule → Type 0
+IsPap (site.Always m) = ⊥
+IsPap (site.Files m) = ⊥
+IsPap (site.Pap m) = Unit {0}
+IsPap (site.Chap m) = ⊥
+
+-- A module is an instance of `chap`.
+abbrev pub IsChap : SiteModule → Type 0
+IsChap (site.Always m) = ⊥
+IsChap (site.Files m) = ⊥
+IsChap (site.Pap m) = ⊥
+IsChap (site.Chap m) = Unit {0}
+
+-- A module is an instance of `pap` or of `chap`.
+abbrev pub IsPapOrChap : SiteModule → Type 0
+IsPapOrChap m = IsPap m ⊎ IsChap m
+
+-- The statements are one call, with no actions of its own, of a module of this kind.
+pub record IsAlone (IsOfKind : SiteModule → Type 0) (stack : List SiteModule) (statements : List Statement) : Type 0 where
   pub statement : Statement
   pub instance : ℕ
-  pub pap : Pap
+  pub called : SiteModule
   pub alone : statements ≡ statement ∷ []
   pub calls : statement.kind ≡ kind.Call (record { instance = instance; overrides = [] })
-  pub is_pap : slice_get stack instance ≡ Some (site.Pap pap)
+  pub is_there : slice_get stack instance ≡ Some called
+  pub is_of_kind : IsOfKind called
 
--- Passwords alone let requests to a server in: nothing in its section authorize can bring Auth-Type to `Accept`, and each
--- subsection of authenticate is `pap` alone.
-pub record ChecksPasswords (policies : Policies) (server : List ℕ) : Type 0 where
+-- Modules of this kind alone let requests to a server in: nothing in its section authorize can bring Auth-Type to `Accept`, and
+-- each subsection of authenticate is one of them alone.
+pub record LetsInBy (IsOfKind : SiteModule → Type 0) (policies : Policies) (server : List ℕ) : Type 0 where
   pub never_accepts : (id : SectionId) (statements : List Statement) → section_named policies.table server Authorize None ≡ Some id
       → statements_of policies.table id ≡ Some statements → NeverAccept policies.stack statements
-  pub pap_alone : (name : List ℕ) (id : SectionId) (statements : List Statement) → section_named policies.table server Authenticate (Some name) ≡ Some id
-      → statements_of policies.table id ≡ Some statements → IsPapAlone policies.stack statements
+  pub alone : (name : List ℕ) (id : SectionId) (statements : List Statement) → section_named policies.table server Authenticate (Some name) ≡ Some id
+      → statements_of policies.table id ≡ Some statements → IsAlone IsOfKind policies.stack statements
+
+-- Passwords alone let requests to a server in; answers to challenges alone; one of both.
+abbrev pub ChecksPasswords : Policies → List ℕ → Type 0
+ChecksPasswords = LetsInBy IsPap
+
+abbrev pub ChecksChallenges : Policies → List ℕ → Type 0
+ChecksChallenges = LetsInBy IsChap
+
+abbrev pub ChecksEither : Policies → List ℕ → Type 0
+ChecksEither = LetsInBy IsPapOrChap

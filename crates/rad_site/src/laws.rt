@@ -1,13 +1,13 @@
-//! The law of passwords: where they alone let requests in, an accepted request has the one that is known. It is a fact about
-//! the definitions, and the function does nothing.
+//! The laws of passwords and challenges: where they alone let requests in, an accepted request has what they ask for. They are
+//! facts about the definitions, and the functions do nothing.
 
-ghost use Rattle.std.specs.Prelude.{◌≡◌, ℕ, List, []};
+ghost use Rattle.std.specs.Prelude.{◌≡◌, ◌⊎◌, ℕ, List, []};
 ghost use Rattle.rad_dict.specs.Definitions.{Definitions};
 ghost use Rattle.mod_base.specs.Situation.{Situation};
-ghost use Rattle.mod_auth.specs.LetsIn.{KnowsThePassword};
+ghost use Rattle.mod_auth.specs.LetsIn.{KnowsThePassword, HasTheDigest};
 ghost use Rattle.rad_site.specs.declared.verdict.Verdict.{Verdict};
 ghost use Rattle.rad_site.specs.Access.{authorized, decided};
-ghost use Rattle.rad_site.specs.Passwords.{ChecksPasswords};
+ghost use Rattle.rad_site.specs.Passwords.{ChecksPasswords, ChecksChallenges, ChecksEither};
 ghost use Rattle.rad_site.specs.Policies.{Policies as AnyPolicies};
 
 /// Where each subsection of a server's authenticate is `pap` alone and nothing in its authorize can bring Auth-Type to
@@ -17,4 +17,22 @@ ghost use Rattle.rad_site.specs.Policies.{Policies as AnyPolicies};
 pub fn passwords_let_requests_in()
     ensures { (policies : AnyPolicies) (dict : Definitions) (server : List ℕ) (begun : Situation) → ChecksPasswords policies server
         → begun.scope.lists.control ≡ [] → (decided policies dict server begun).1 ≡ Verdict.Accept → KnowsThePassword (authorized policies dict server begun).0.scope.lists }
+{}
+
+/// Where each of them is `chap` alone, it is accepted only where, behind authorize, its first CHAP-Password is an octet and the
+/// MD5 of that octet, the user's Cleartext-Password and the challenge: its first CHAP-Challenge, or else its Request
+/// Authenticator.
+pub fn challenges_let_requests_in()
+    ensures { (policies : AnyPolicies) (dict : Definitions) (server : List ℕ) (begun : Situation) → ChecksChallenges policies server
+        → begun.scope.lists.control ≡ [] → (decided policies dict server begun).1 ≡ Verdict.Accept
+        → HasTheDigest (authorized policies dict server begun).0.scope.authenticator (authorized policies dict server begun).0.scope.lists }
+{}
+
+/// Where each of them is `pap` alone or `chap` alone, it is accepted only where it has the password or the answer to the
+/// challenge.
+pub fn passwords_and_challenges_let_requests_in()
+    ensures { (policies : AnyPolicies) (dict : Definitions) (server : List ℕ) (begun : Situation) → ChecksEither policies server
+        → begun.scope.lists.control ≡ [] → (decided policies dict server begun).1 ≡ Verdict.Accept
+        → KnowsThePassword (authorized policies dict server begun).0.scope.lists
+        ⊎ HasTheDigest (authorized policies dict server begun).0.scope.authenticator (authorized policies dict server begun).0.scope.lists }
 {}

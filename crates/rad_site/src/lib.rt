@@ -24,7 +24,9 @@ pub use build::fault_text;
 pub use fault::BuildFault;
 pub use files_module::FilesModule;
 pub use generation::Generation;
-pub use laws::passwords_let_requests_in;
+pub use laws::{
+    challenges_let_requests_in, passwords_and_challenges_let_requests_in, passwords_let_requests_in,
+};
 pub use settings::Settings;
 pub use site_module::SiteModule;
 pub use unlang_tree::TreeFault;
