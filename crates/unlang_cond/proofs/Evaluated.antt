@@ -1,11 +1,9 @@
 -- The evaluation step by step comes to what the tree says.
-use Rattle.std.proofs.Common.{◌≡◌, ℕ, zero, suc, ◌+◌, ◌-◌, ◌<◌, ◌≤◌, drop, get_or, add-one, Bool, true, false, not, cond, List, [], ◌∷◌, length, map, Option, Some, None, refl, sym, ap, ◌∙◌, arith}
+use Rattle.std.proofs.Common.{◌≡◌, ℕ, suc, ◌+◌, ◌-◌, ◌<◌, ◌≤◌, drop, get_or, add-one, Bool, true, false, not, cond, List, [], ◌∷◌, length, Option, Some, None, refl, sym, ap, ◌∙◌, arith}
 use Rattle.std.proofs.Math.Seq.{drop-cons}
 use Rattle.std.proofs.Math.ListN.{drop_of_length-le}
-use Rattle.regex.specs.declared.bytes.regex.Regex.{Regex}
 use Rattle.rad_value.specs.declared.scope.Scope.{Scope}
 use Rattle.rad_dict.specs.Definitions.{Definitions}
-use Rattle.unlang_cond.specs.declared.atom.Atom.{Atom}
 use Rattle.unlang_cond.specs.declared.atom.Token.{Token}
 use Rattle.unlang_cond.specs.declared.atom.Token.TheVariants as token
 use Rattle.unlang_cond.specs.declared.groups.Step.{Step}
@@ -15,8 +13,8 @@ use Rattle.unlang_cond.specs.declared.groups.Group.{Group}
 use Rattle.unlang_cond.specs.Tokens.{depth_after, depth_from}
 use Rattle.unlang_cond.specs.Steps.{tokens_in}
 use Rattle.unlang_cond.specs.Tests.{with_captures, OnlyCaptures}
-use Rattle.unlang_cond.specs.Trees.{Tree, Always, Leaf, Not, And, Or, holds, Branch, fresh, anded, ored, negating, chained, whole, given, closed, grown_by, grow, grown, innermost, tree_of}
-use Rattle.unlang_cond.specs.Machine.{settled, opened, alternative, is_met, shut, took, group, fresh_group, opening, closing, advanced_by, advance, run, top_met}
+use Rattle.unlang_cond.specs.Trees.{Tree, Leaf, holds, Branch, fresh, anded, ored, negating, chained, whole, closed, grown_by, grow, grown, innermost, tree_of}
+use Rattle.unlang_cond.specs.Machine.{settled, opened, alternative, is_met, shut, took, group, fresh_group, closing, advanced_by, advance, run, top_met}
 
 module _ (dict : Definitions) where
   -- How far the operands of an alternative have come.
@@ -147,30 +145,30 @@ module _ (dict : Definitions) where
       ap (λ (r : Option Progress × Scope). (group r.0 false ∷ o.0, r.1))
       (operand_given (around o.0) p.before p.chain p.negated (whole g) o.1 ∙ closed_group t.0 p.negated g.before g.chain t.1)
 
-  by_token : (t : Token) (pattern : Option Regex) (g : Branch) (outer : List Branch) (s : Scope)
-      → evaluated (grown_by t pattern g outer) s ≡ advanced_by t pattern (group (within (around (evaluated outer s).0) g.before g.chain (evaluated outer s).1).0 g.negated) (evaluated outer s).0 (within (around (evaluated outer s).0) g.before g.chain (evaluated outer s).1).1 dict
-  by_token token.Not pattern g outer s = refl
-  by_token token.Open pattern g outer s =
+  by_token : (t : Token) (g : Branch) (outer : List Branch) (s : Scope)
+      → evaluated (grown_by t g outer) s ≡ advanced_by t (group (within (around (evaluated outer s).0) g.before g.chain (evaluated outer s).1).0 g.negated) (evaluated outer s).0 (within (around (evaluated outer s).0) g.before g.chain (evaluated outer s).1).1 dict
+  by_token token.Not g outer s = refl
+  by_token token.Open g outer s =
       let e = evaluated (g ∷ outer) s in
       ap (λ (r : Option Progress × Scope). (group r.0 false ∷ e.0, r.1)) (opened_fresh (within (around (evaluated outer s).0) g.before g.chain (evaluated outer s).1).0 e.1)
-  by_token token.Close pattern g outer s = close_step g outer s
-  by_token token.And pattern g outer s = refl
-  by_token token.Or pattern g outer s =
+  by_token token.Close g outer s = close_step g outer s
+  by_token token.And g outer s = refl
+  by_token token.Or g outer s =
       let o = evaluated outer s in
       ap (λ (r : Option Progress × Scope). (group r.0 g.negated ∷ o.0, r.1)) (next_alternative (around o.0) g.before g.chain o.1)
-  by_token (token.Atom a) pattern g outer s =
+  by_token (token.Atom a) g outer s =
       let o = evaluated outer s in
-      ap (λ (r : Option Progress × Scope). (group r.0 false ∷ o.0, r.1)) (operand_given (around o.0) g.before g.chain g.negated (Leaf a pattern) o.1)
+      ap (λ (r : Option Progress × Scope). (group r.0 false ∷ o.0, r.1)) (operand_given (around o.0) g.before g.chain g.negated (Leaf a) o.1)
 
-  one_step : (step : Step) (branches : List Branch) (s : Scope) → evaluated (grow step branches) s ≡ advance step (evaluated branches s).0 (evaluated branches s).1 dict
-  one_step step [] s = refl
-  one_step step (g ∷ outer) s = by_token step.token step.pattern g outer s
+  one_token : (t : Token) (branches : List Branch) (s : Scope) → evaluated (grow t branches) s ≡ advance t (evaluated branches s).0 (evaluated branches s).1 dict
+  one_token t [] s = refl
+  one_token t (g ∷ outer) s = by_token t g outer s
 
-  all_steps : (steps : List Step) (branches : List Branch) (s : Scope) → run steps (evaluated branches s).0 (evaluated branches s).1 dict ≡ evaluated (grown branches steps) s
+  all_tokens : (tokens : List Token) (branches : List Branch) (s : Scope) → run tokens (evaluated branches s).0 (evaluated branches s).1 dict ≡ evaluated (grown branches tokens) s
   unfolding run grown
-  all_steps [] branches s = refl
-  all_steps (step ∷ steps) branches s =
-      ap (λ (r : List Group × Scope). run steps r.0 r.1 dict) (sym (one_step step branches s)) ∙ all_steps steps (grow step branches) s
+  all_tokens [] branches s = refl
+  all_tokens (t ∷ tokens) branches s =
+      ap (λ (r : List Group × Scope). run tokens r.0 r.1 dict) (sym (one_token t branches s)) ∙ all_tokens tokens (grow t branches) s
 
   value_of_one : (branches : List Branch) (s : Scope) → length branches ≡ 1 → (top_met (evaluated branches s).0, (evaluated branches s).1) ≡ holds (innermost branches) s dict
   value_of_one [] s one = absurd (omega arith)
@@ -178,46 +176,47 @@ module _ (dict : Definitions) where
   value_of_one (g ∷ p ∷ outer) s one = absurd (omega arith)
 
   -- With each parenthesis closed, the evaluation comes to what the tree says.
-  pub comes_to : (steps : List Step) (s : Scope) → length (grown (fresh ∷ []) steps) ≡ 1
-      → (top_met (run steps (fresh_group ∷ []) s dict).0, (run steps (fresh_group ∷ []) s dict).1) ≡ holds (tree_of steps) s dict
-  comes_to steps s one =
-      ap (λ (r : List Group × Scope). (top_met r.0, r.1)) (all_steps steps (fresh ∷ []) s) ∙ value_of_one (grown (fresh ∷ []) steps) s one
+  pub comes_to : (tokens : List Token) (s : Scope) → length (grown (fresh ∷ []) tokens) ≡ 1
+      → (top_met (run tokens (fresh_group ∷ []) s dict).0, (run tokens (fresh_group ∷ []) s dict).1) ≡ holds (tree_of tokens) s dict
+  comes_to tokens s one =
+      ap (λ (r : List Group × Scope). (top_met r.0, r.1)) (all_tokens tokens (fresh ∷ []) s) ∙ value_of_one (grown (fresh ∷ []) tokens) s one
 
 closed_length : (g : Branch) (outer : List Branch) (depth : ℕ) → length outer ≡ depth → length (closed g outer) ≡ depth - 1 + 1
 closed_length g [] depth e = omega arith
 closed_length g (p ∷ outer) depth e = omega arith
 
-one_length : (t : Token) (pattern : Option Regex) (g : Branch) (outer : List Branch) (depth : ℕ) → length outer ≡ depth → length (grown_by t pattern g outer) ≡ depth_after t depth + 1
-one_length token.Not pattern g outer depth e = omega arith
-one_length token.Open pattern g outer depth e = omega arith
-one_length token.Close pattern g outer depth e = closed_length g outer depth e
-one_length token.And pattern g outer depth e = omega arith
-one_length token.Or pattern g outer depth e = omega arith
-one_length (token.Atom a) pattern g outer depth e = omega arith
+one_length : (t : Token) (g : Branch) (outer : List Branch) (depth : ℕ) → length outer ≡ depth → length (grown_by t g outer) ≡ depth_after t depth + 1
+one_length token.Not g outer depth e = omega arith
+one_length token.Open g outer depth e = omega arith
+one_length token.Close g outer depth e = closed_length g outer depth e
+one_length token.And g outer depth e = omega arith
+one_length token.Or g outer depth e = omega arith
+one_length (token.Atom a) g outer depth e = omega arith
 
 -- As many groups are open as there are open parentheses, and one.
-pub grown_length : (steps : List Step) (branches : List Branch) (depth : ℕ) → length branches ≡ depth + 1 → length (grown branches steps) ≡ depth_from depth (tokens_in steps) + 1
+pub grown_length : (tokens : List Token) (branches : List Branch) (depth : ℕ) → length branches ≡ depth + 1 → length (grown branches tokens) ≡ depth_from depth tokens + 1
 unfolding grown depth_from
 grown_length [] branches depth e = e
-grown_length (step ∷ steps) [] depth e = absurd (omega arith)
-grown_length (step ∷ steps) (g ∷ outer) depth e = grown_length steps (grow step (g ∷ outer)) (depth_after step.token depth) (one_length step.token step.pattern g outer depth (omega arith))
+grown_length (t ∷ tokens) [] depth e = absurd (omega arith)
+grown_length (t ∷ tokens) (g ∷ outer) depth e = grown_length tokens (grow t (g ∷ outer)) (depth_after t depth) (one_length t g outer depth (omega arith))
 
 -- One step of the loop.
 pub run_step : (steps : List Step) (n : ℕ) (x : Step) (groups : List Group) (s : Scope) (dict : Definitions) → n < length steps → x ≡ get_or steps n x
-    → run (drop n steps) groups s dict ≡ run (drop (n + 1) steps) (advance x groups s dict).0 (advance x groups s dict).1 dict
+    → run (tokens_in (drop n steps)) groups s dict ≡ run (tokens_in (drop (n + 1) steps)) (advance x.token groups s dict).0 (advance x.token groups s dict).1 dict
 unfolding run
 run_step steps n x groups s dict lt e =
-    rw add-one (ap (λ (l : List Step). run l groups s dict) (drop-cons steps n x lt ∙ ap (λ (y : Step). y ∷ drop (suc n) steps) (sym e)))
+    rw add-one (ap (λ (l : List Step). run (tokens_in l) groups s dict) (drop-cons steps n x lt ∙ ap (λ (y : Step). y ∷ drop (suc n) steps) (sym e)))
 
 -- Its end.
 pub finished : (dict : Definitions) (steps : List Step) (start s : Scope) (groups : List Group) (n : ℕ) (value : Bool) → length steps ≤ n
-    → run (drop n steps) groups s dict ≡ run steps (fresh_group ∷ []) start dict → depth_from 0 (tokens_in steps) ≡ 0 → value ≡ top_met groups
-    → ◌≡◌ {A = Bool × Scope} (value, s) (holds (tree_of steps) start dict)
+    → run (tokens_in (drop n steps)) groups s dict ≡ run (tokens_in steps) (fresh_group ∷ []) start dict → depth_from 0 (tokens_in steps) ≡ 0 → value ≡ top_met groups
+    → ◌≡◌ {A = Bool × Scope} (value, s) (holds (tree_of (tokens_in steps)) start dict)
 unfolding run
 finished dict steps start s groups n value all so_far none e =
-    let ends : run steps (fresh_group ∷ []) start dict ≡ (groups, s) = sym so_far ∙ ap (λ (l : List Step). run l groups s dict) (drop_of_length-le steps all) in
-    let one : length (grown (fresh ∷ []) steps) ≡ 1 = grown_length steps (fresh ∷ []) 0 refl ∙ ap (λ d. d + 1) none in
-    ap (λ (v : Bool). (v, s)) e ∙ ap (λ (r : List Group × Scope). (top_met r.0, r.1)) (sym ends) ∙ comes_to dict steps start one
+    let tokens = tokens_in steps in
+    let ends : run tokens (fresh_group ∷ []) start dict ≡ (groups, s) = sym so_far ∙ ap (λ (l : List Step). run (tokens_in l) groups s dict) (drop_of_length-le steps all) in
+    let one : length (grown (fresh ∷ []) tokens) ≡ 1 = grown_length tokens (fresh ∷ []) 0 refl ∙ ap (λ d. d + 1) none in
+    ap (λ (v : Bool). (v, s)) e ∙ ap (λ (r : List Group × Scope). (top_met r.0, r.1)) (sym ends) ∙ comes_to dict tokens start one
 
 -- Captures that change twice.
 pub alone_twice : (a b c : Scope) → OnlyCaptures a b → OnlyCaptures b c → OnlyCaptures a c

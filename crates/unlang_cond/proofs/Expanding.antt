@@ -1,5 +1,5 @@
 -- An expansion's fault is the condition's.
-use Rattle.std.proofs.Common.{◌≡◌, ℕ, Result, Ok, Err, refl, ap}
+use Rattle.std.proofs.Common.{ℕ, Result, ap}
 use Rattle.rad_text.specs.Read.{Fails}
 use Rattle.rad_text.specs.Answers.{IsFault}
 use Rattle.unlang_xlat.specs.declared.fault.XlatFault.{XlatFault}

@@ -1,6 +1,7 @@
 pub mod Turns
 pub mod Digits
 pub mod Located
+pub mod Meant
 pub mod Evaluated
 pub mod Ready
 pub mod Expanding

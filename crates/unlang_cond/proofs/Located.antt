@@ -1,26 +1,23 @@
 -- The locations of a match capture what its groups span.
-use Rattle.std.proofs.Common.{◌≡◌, ℕ, zero, suc, ◌<◌, ◌≤◌, Bool, true, false, cond, List, [], ◌∷◌, map, Option, Some, None, refl, sym, ap, ◌∙◌, arith}
+use Rattle.std.proofs.Common.{◌≡◌, ℕ, zero, suc, ◌<◌, true, false, cond, List, [], ◌∷◌, map, Some, None, refl, ap, ◌∙◌, arith}
 use Rattle.std.specs.Prelude.{nat_lt}
 use Rattle.std.specs.Option.{option_and_then}
 use borrow.Author.Tests.{ltb-true}
-use Rattle.regex.specs.declared.bytes.regex.Regex.{Regex}
 use Rattle.regex.specs.declared.locations.CaptureLocations.{CaptureLocations}
-use Rattle.regex.specs.Patterns.{Match, find, span}
-use Rattle.regex.specs.Bytes.{regex_pattern, group_count}
+use Rattle.regex.specs.Patterns.{Re, Match, find}
 use Rattle.regex.specs.Locations.{location, location_count, AreLocationsOf}
-use Rattle.regex.specs.Writes.{group_of}
-use Rattle.unlang_cond.specs.Looks.{cut_out, nine, span_of, group_span, captured, looked, located, all_located}
+use Rattle.unlang_cond.specs.Looks.{cut_out, nine, span_of, group_span, looked, located, all_located}
 
 same_map : {A B : Type 0} (f g : A → B) → ((x : A) → f x ≡ g x) → (xs : List A) → map f xs ≡ map g xs
 same_map f g same [] = refl
 same_map f g same (x ∷ xs) = ap (λ y. y ∷ map f xs) (same x) ∙ ap (λ ys. g x ∷ ys) (same_map f g same xs)
 
-module _ (regex : Regex) (text : List ℕ) (m : Match) (locations : CaptureLocations) (at : AreLocationsOf m locations) where
+module _ (groups : ℕ) (re : Re) (text : List ℕ) (m : Match) (locations : CaptureLocations) (at : AreLocationsOf m locations) where
   inner : (n : ℕ) → n < location_count locations → location locations n ≡ span_of m n
   inner zero within = at.0 within
   inner (suc n) within = at.1 (suc n) (omega arith) within
 
-  one_group : (n : ℕ) → location_count locations ≡ group_count regex → located locations text n ≡ option_and_then (cut_out text) (group_span regex m n)
+  one_group : (n : ℕ) → location_count locations ≡ groups → located locations text n ≡ option_and_then (cut_out text) (group_span groups m n)
   unfolding group_span
   one_group n count = rw (← count)
       ((elim (nat_lt n (location_count locations)) as (λ b. nat_lt n (location_count locations) ≡ b
@@ -29,11 +26,11 @@ module _ (regex : Regex) (text : List ℕ) (m : Match) (locations : CaptureLocat
         | false ↦ λ e. refl
       ]) refl)
 
-  pub some_look : find (regex_pattern regex) text 0 ≡ Some m → location_count locations ≡ group_count regex → Some (all_located locations text) ≡ looked regex text
+  pub some_look : find re text 0 ≡ Some m → location_count locations ≡ groups → Some (all_located locations text) ≡ looked groups re text
   unfolding looked
   some_look found count =
-      rw found (ap Some (same_map (located locations text) (λ n. option_and_then (cut_out text) (group_span regex m n)) (λ n. one_group n count) nine))
+      rw found (ap Some (same_map (located locations text) (λ n. option_and_then (cut_out text) (group_span groups m n)) (λ n. one_group n count) nine))
 
-pub no_look : (regex : Regex) (text : List ℕ) → find (regex_pattern regex) text 0 ≡ None → None ≡ looked regex text
+pub no_look : (groups : ℕ) (re : Re) (text : List ℕ) → find re text 0 ≡ None → None ≡ looked groups re text
 unfolding looked
-no_look regex text none = rw none refl
+no_look groups re text none = rw none refl

@@ -1,11 +1,12 @@
 -- Steps that are made of tokens, one at a time, from the front.
-use Rattle.std.proofs.Common.{◌≡◌, ℕ, List, [], ◌∷◌, ◌++◌, map, reverse, Option, Some, None, refl, sym, ap, ◌∙◌, inl, inr, append_assoc, subst}
+use Rattle.std.proofs.Common.{◌≡◌, ℕ, zero, suc, ◌<◌, Bool, length, get_or, arith, List, [], ◌∷◌, ◌++◌, reverse, Option, Some, None, refl, sym, ap, ◌∙◌, inl, inr, append_assoc, subst}
 use Rattle.std.proofs.lemmas.List.{map-append, reverse-append}
 use Rattle.rad_text.specs.declared.read.ReadError.{ReadError}
 use Rattle.rad_text.specs.declared.read.ReadError.TheVariants as errors
 use Rattle.unlang_cond.specs.declared.atom.Token.{Token}
 use Rattle.unlang_cond.specs.declared.groups.Step.{Step}
-use Rattle.unlang_cond.specs.Steps.{tokens_in, pattern_in, IsReady, IsReadyStep, AreReady, Refuses, RefusedBy, RefusesAt, RefusedIn}
+use Rattle.unlang_cond.specs.declared.atom.Pattern.{Pattern}
+use Rattle.unlang_cond.specs.Steps.{tokens_in, pattern_in, IsReady, IsReadyStep, AreReady, IsFit, AreFit, Refuses, RefusedBy, RefusesAt, RefusedIn}
 
 turned : (unread new : List Token) (t : Token) → unread ≡ new ++ t ∷ [] → reverse unread ≡ t ∷ reverse new
 turned unread new t e = ap reverse e ∙ reverse-append new (t ∷ [])
@@ -30,3 +31,19 @@ refused_in errors.NoMemory all front t unread new e pop refused = tt
 refused_in (errors.Wrong left) all front t unread new e pop refused =
     let whole : front ++ t ∷ reverse new ≡ all = ap (λ (xs : List Token). front ++ xs) (sym (turned unread new t pop)) ∙ e in
     subst (λ (ts : List Token). RefusesAt ts left) whole (refuses_behind front t (reverse new) left refused)
+
+fit_of : (pattern : Option Pattern) (compiled : Option (List ℕ × Bool)) → IsReady pattern compiled → IsFit pattern
+fit_of None compiled ready = tt
+fit_of (Some pattern) None ready = absurd ready
+fit_of (Some pattern) (Some compiled) ready = ready.1
+
+-- What is compiled was taken.
+pub all_fit : (steps : List Step) → AreReady steps → AreFit (tokens_in steps)
+all_fit [] ready = tt
+all_fit (step ∷ steps) ready = (fit_of (pattern_in step.token) step.pattern ready.0.ready, all_fit steps ready.1)
+
+-- One of the steps.
+pub one_of_ready : (steps : List Step) (n : ℕ) (x : Step) → AreReady steps → n < length steps → x ≡ get_or steps n x → IsReady (pattern_in x.token) x.pattern
+one_of_ready [] n x ready lt e = absurd (omega arith)
+one_of_ready (step ∷ steps) zero x ready lt e = rw e ready.0.ready
+one_of_ready (step ∷ steps) (suc n) x ready lt e = one_of_ready steps n x ready.1 (omega arith) e

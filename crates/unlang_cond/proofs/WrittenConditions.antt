@@ -1,30 +1,27 @@
 -- A whole condition that is written is read as its tree, and is refused for a pattern alone.
-use Rattle.std.proofs.Common.{◌≡◌, ℕ, Bool, true, false, List, [], ◌∷◌, ◌++◌, length, map, Option, Some, None, inl, inr, refl, sym, ap, ◌∙◌, subst}
+use Rattle.std.proofs.Common.{◌≡◌, ℕ, Bool, true, false, List, [], ◌∷◌, ◌++◌, length, map, Option, Some, None, inl, inr, refl, ap, ◌∙◌, subst}
 use Rattle.std.proofs.lemmas.List.{append-nil}
 use Rattle.std.specs.Option.{option_map}
 use Rattle.std.specs.Prelude.{◌⊎◌}
-use Rattle.regex.specs.declared.bytes.regex.Regex.{Regex}
 use Rattle.rad_text.specs.Blanks.{after_blanks}
 use Rattle.rad_dict.specs.Definitions.{Definitions}
 use Rattle.unlang_cond.specs.declared.atom.Token.{Token}
 use Rattle.unlang_cond.specs.declared.atom.Token.TheVariants as token
-use Rattle.unlang_cond.specs.declared.condition.Cond.{Cond}
 use Rattle.unlang_cond.specs.declared.fault.CondFault.{CondFault}
 use Rattle.unlang_cond.specs.declared.fault.CondFault.TheVariants.{BadCondition, UnknownAttr, BadPattern, NoMemory}
 use Rattle.unlang_cond.specs.declared.fault.Wrong.{Wrong}
-use Rattle.unlang_cond.specs.declared.groups.Step.{Step}
 use Rattle.unlang_cond.specs.Faults.{fault_of}
 use Rattle.unlang_cond.specs.Tokens.{tokens_of}
-use Rattle.unlang_cond.specs.Steps.{tokens_in, RefusesAt}
+use Rattle.unlang_cond.specs.Steps.{RefusesAt}
 use Rattle.unlang_cond.specs.Trees.{Tree, Leaf, Branch, fresh, anded, ored, negating, chained, whole, given, closed, grown_by, grow, grown, innermost, tree_of}
-use Rattle.unlang_cond.specs.Conditions.{steps_of, condition_of, IsReadAs, IsFaultOf}
+use Rattle.unlang_cond.specs.Conditions.{made_of, condition_of, IsFaultOf}
 use Rattle.unlang_cond.specs.Outlines.{outline, HasRefused}
 use Rattle.unlang_cond.specs.Written.{IsGap, nothing, space, tab, IsCondition, condition}
 use Rattle.unlang_cond.proofs.Turns.{Enough, starts, is_done}
 use Rattle.unlang_cond.proofs.WrittenWords.{Ends, at_end, ends_behind, gap_passed}
-use Rattle.unlang_cond.proofs.WrittenTrees.{plain_step, plain_steps, shorter, AnyRead, any_read, any_stays}
+use Rattle.unlang_cond.proofs.WrittenTrees.{plain_token, plain_tokens, shorter, AnyRead, any_read, any_stays}
 
--- A group apart from its patterns' places and what they are compiled to.
+-- A group apart from its patterns' places.
 abbrev plain_branch : Branch → Branch
 plain_branch g = record { before = option_map outline g.before; chain = option_map outline g.chain; negated = g.negated }
 
@@ -57,30 +54,30 @@ outline_closed g [] = refl
 outline_closed g (p ∷ outer) =
     ap (λ (b : Branch). b ∷ map plain_branch outer) (outline_given (whole g) p ∙ ap (λ (t : Tree). given t (plain_branch p)) (outline_whole g))
 
-outline_token : (t : Token) (pattern : Option Regex) (g : Branch) (outer : List Branch) → map plain_branch (grown_by t pattern g outer) ≡ grow (plain_step t) (plain_branch g ∷ map plain_branch outer)
-outline_token token.Not pattern g outer = refl
-outline_token token.Open pattern g outer = refl
-outline_token token.Close pattern g outer = outline_closed g outer
-outline_token token.And pattern g outer = refl
-outline_token token.Or pattern g outer = ap (λ (t : Tree). record { before = Some t; chain = None; negated = g.negated } ∷ map plain_branch outer) (outline_whole g)
-outline_token (token.Atom a) pattern g outer = ap (λ (b : Branch). b ∷ map plain_branch outer) (outline_given (Leaf a pattern) g)
+outline_token : (t : Token) (g : Branch) (outer : List Branch) → map plain_branch (grown_by t g outer) ≡ grow (plain_token t) (plain_branch g ∷ map plain_branch outer)
+outline_token token.Not g outer = refl
+outline_token token.Open g outer = refl
+outline_token token.Close g outer = outline_closed g outer
+outline_token token.And g outer = refl
+outline_token token.Or g outer = ap (λ (t : Tree). record { before = Some t; chain = None; negated = g.negated } ∷ map plain_branch outer) (outline_whole g)
+outline_token (token.Atom a) g outer = ap (λ (b : Branch). b ∷ map plain_branch outer) (outline_given (Leaf a) g)
 
-outline_step : (step : Step) (branches : List Branch) → map plain_branch (grow step branches) ≡ grow (plain_step step.token) (map plain_branch branches)
-outline_step step [] = refl
-outline_step step (g ∷ outer) = outline_token step.token step.pattern g outer
+outline_grow : (t : Token) (branches : List Branch) → map plain_branch (grow t branches) ≡ grow (plain_token t) (map plain_branch branches)
+outline_grow t [] = refl
+outline_grow t (g ∷ outer) = outline_token t g outer
 
-outline_grown : (steps : List Step) (branches : List Branch) → map plain_branch (grown branches steps) ≡ grown (map plain_branch branches) (plain_steps (tokens_in steps))
+outline_grown : (tokens : List Token) (branches : List Branch) → map plain_branch (grown branches tokens) ≡ grown (map plain_branch branches) (plain_tokens tokens)
 unfolding grown
 outline_grown [] branches = refl
-outline_grown (step ∷ steps) branches =
-    outline_grown steps (grow step branches) ∙ ap (λ (b : List Branch). grown b (plain_steps (tokens_in steps))) (outline_step step branches)
+outline_grown (t ∷ tokens) branches =
+    outline_grown tokens (grow t branches) ∙ ap (λ (b : List Branch). grown b (plain_tokens tokens)) (outline_grow t branches)
 
 outline_innermost : (branches : List Branch) → outline (innermost branches) ≡ innermost (map plain_branch branches)
 outline_innermost [] = refl
 outline_innermost (g ∷ outer) = outline_whole g
 
-outline_tree : (steps : List Step) → outline (tree_of steps) ≡ tree_of (plain_steps (tokens_in steps))
-outline_tree steps = outline_innermost (grown (fresh ∷ []) steps) ∙ ap innermost (outline_grown steps (fresh ∷ []))
+outline_tree : (tokens : List Token) → outline (tree_of tokens) ≡ tree_of (plain_tokens tokens)
+outline_tree tokens = outline_innermost (grown (fresh ∷ []) tokens) ∙ ap innermost (outline_grown tokens (fresh ∷ []))
 
 gap_ends : {gap : List ℕ} → IsGap gap → Ends gap
 gap_ends {gap} blank = subst Ends (append-nil gap) (ends_behind blank [] at_end)
@@ -95,7 +92,7 @@ gap_alone (tab gap blank) = gap_alone blank
 record Tokens (dict : Definitions) (tree : Tree) (text : List ℕ) : Type 0 where
   tokens : List Token
   are : tokens_of text dict ≡ (tokens, None)
-  make : tree_of (plain_steps tokens) ≡ tree
+  make : tree_of (plain_tokens tokens) ≡ tree
   refuses : (left : ℕ) → RefusesAt tokens left → HasRefused tree
 
 module _ (dict : Definitions) where
@@ -114,11 +111,10 @@ module _ (dict : Definitions) where
   tokens_written : {tree : Tree} {text : List ℕ} → IsCondition dict tree text → Tokens dict tree text
   tokens_written (condition tree gap text behind blank any more) = tokens_read tree gap text behind blank more (any_stays dict any) (any_read dict any (gap_ends more))
 
-  pub condition_read : (tree : Tree) (text : List ℕ) (cond : Cond) → IsCondition dict tree text → IsReadAs cond text dict → outline (condition_of cond) ≡ tree
-  condition_read tree text cond is read =
+  pub condition_read : (tree : Tree) (text : List ℕ) → IsCondition dict tree text → option_map outline (condition_of text dict) ≡ Some tree
+  condition_read tree text is =
       let written = tokens_written is in
-      let same : tokens_in (steps_of cond) ≡ written.tokens = ap (λ (r : List Token × Option Wrong). r.0) (sym read.tokens ∙ written.are) in
-      outline_tree (steps_of cond) ∙ ap (λ (ts : List Token). tree_of (plain_steps ts)) same ∙ written.make
+      ap (λ (r : List Token × Option Wrong). option_map outline (made_of r.0 r.1)) written.are ∙ ap Some (outline_tree written.tokens ∙ written.make)
 
   pub condition_accepted : (tree : Tree) (text : List ℕ) (fault : CondFault) → IsCondition dict tree text → IsFaultOf fault text dict → (fault ≡ NoMemory) ⊎ HasRefused tree
   condition_accepted tree text (BadCondition offset) is fault =

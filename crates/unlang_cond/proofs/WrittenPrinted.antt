@@ -1,5 +1,5 @@
 -- A tree as it is printed is written by the grammar.
-use Rattle.std.proofs.Common.{ℕ, true, false, List, [], ◌∷◌, Some, None, subst}
+use Rattle.std.proofs.Common.{ℕ, true, false, List, [], ◌∷◌, subst}
 use Rattle.std.proofs.lemmas.List.{append-nil}
 use Rattle.rad_dict.specs.Definitions.{Definitions}
 use Rattle.unlang_cond.specs.declared.atom.Atom.{Atom}
@@ -51,8 +51,7 @@ module _ (dict : Definitions) where
   -- A tree is printed as the grammar writes it.
   printed_at : (spell : Atom → List ℕ) (place : Place) (tree : Tree) → IsSpelled dict spell tree → IsAt place tree (text_at spell place tree)
   printed_at spell place Always is = absurd is
-  printed_at spell place (Leaf a None) is = from_factor place (alone a (spell a) is)
-  printed_at spell place (Leaf a (Some regex)) is = absurd is
+  printed_at spell place (Leaf a) is = from_factor place (alone a (spell a) is)
   printed_at spell place (Not t) is = at_not place (signed true t (33 ∷ []) (text_at spell BehindNot t) (sign false [] [] nothing no_sign) (printed_at spell BehindNot t is))
   printed_at spell place (And a b) is =
       at_and place (both a b (text_at spell BesideOr a) (32 ∷ []) (32 ∷ []) (text_at spell BesideAnd b) (printed_at spell BesideOr a is.0) one_space one_space (printed_at spell BesideAnd b is.1))

@@ -10,7 +10,6 @@ use Rattle.unlang_cond.specs.declared.atom.Atom.TheVariants as atom
 use Rattle.unlang_cond.specs.declared.atom.Token.{Token}
 use Rattle.unlang_cond.specs.declared.atom.Token.TheVariants as token
 use Rattle.unlang_cond.specs.declared.fault.Wrong.{Wrong}
-use Rattle.unlang_cond.specs.declared.groups.Step.{Step}
 use Rattle.unlang_cond.specs.Atoms.{atom_at}
 use Rattle.unlang_cond.specs.Tokens.{token_at, awaits_after, depth_after}
 use Rattle.unlang_cond.specs.Steps.{pattern_of_atom, Refuses, RefusesAt}
@@ -21,7 +20,7 @@ use Rattle.unlang_cond.proofs.Turns.{Enough, going}
 use Rattle.unlang_cond.proofs.WrittenWords.{Front, Ends, at_close, at_and, at_or, ends_behind, gap_passed}
 use Rattle.unlang_cond.proofs.WrittenAtoms.{atom_read, atom_front}
 
--- Tokens apart from where their patterns stand and from what those are compiled to.
+-- Tokens apart from where their patterns stand.
 abbrev pub plain_token : Token → Token
 plain_token token.Not = token.Not
 plain_token token.Open = token.Open
@@ -30,25 +29,22 @@ plain_token token.And = token.And
 plain_token token.Or = token.Or
 plain_token (token.Atom a) = token.Atom (unplaced a)
 
-abbrev pub plain_step : Token → Step
-plain_step t = record { token = plain_token t; pattern = None }
+abbrev pub plain_tokens : List Token → List Token
+plain_tokens tokens = map plain_token tokens
 
-abbrev pub plain_steps : List Token → List Step
-plain_steps tokens = map plain_step tokens
-
-grown_append : (branches : List Branch) (xs ys : List Step) → grown branches (xs ++ ys) ≡ grown (grown branches xs) ys
+grown_append : (branches : List Branch) (xs ys : List Token) → grown branches (xs ++ ys) ≡ grown (grown branches xs) ys
 unfolding grown
 grown_append branches [] ys = refl
 grown_append branches (x ∷ xs) ys = grown_append (grow x branches) xs ys
 
-grown_one : (branches : List Branch) (x : Step) → grown branches (x ∷ []) ≡ grow x branches
+grown_one : (branches : List Branch) (x : Token) → grown branches (x ∷ []) ≡ grow x branches
 unfolding grown
 grown_one branches x = refl
 
 -- One token, and then others.
-tokens_then : (branches middle : List Branch) (xs ys : List Token) → grown branches (plain_steps xs) ≡ middle → grown branches (plain_steps (xs ++ ys)) ≡ grown middle (plain_steps ys)
+tokens_then : (branches middle : List Branch) (xs ys : List Token) → grown branches (plain_tokens xs) ≡ middle → grown branches (plain_tokens (xs ++ ys)) ≡ grown middle (plain_tokens ys)
 tokens_then branches middle xs ys e =
-    ap (grown branches) (map-append plain_step xs ys) ∙ grown_append branches (plain_steps xs) (plain_steps ys) ∙ ap (λ (b : List Branch). grown b (plain_steps ys)) e
+    ap (grown branches) (map-append plain_token xs ys) ∙ grown_append branches (plain_tokens xs) (plain_tokens ys) ∙ ap (λ (b : List Branch). grown b (plain_tokens ys)) e
 
 pub shorter : (text : List ℕ) → length (after_blanks text) ≤ length text
 unfolding after_blanks
@@ -89,21 +85,21 @@ module _ (dict : Definitions) where
   record FactorRead (tree : Tree) (text rest : List ℕ) : Type 0 where
     tokens : List Token
     takes : Takes (text ++ rest) rest tokens
-    grows : (g : Branch) (outer : List Branch) → grown (g ∷ outer) (plain_steps tokens) ≡ given tree g ∷ outer
+    grows : (g : Branch) (outer : List Branch) → grown (g ∷ outer) (plain_tokens tokens) ≡ given tree g ∷ outer
     refuses : (left : ℕ) → RefusesAt tokens left → HasRefused tree
 
   -- The first operands of an alternative, and the alternatives of a group.
   record AllRead (tree : Tree) (text rest : List ℕ) : Type 0 where
     tokens : List Token
     takes : Takes (text ++ rest) rest tokens
-    grows : (before : Option Tree) (outer : List Branch) → grown (record { before = before; chain = None; negated = false } ∷ outer) (plain_steps tokens) ≡ record { before = before; chain = Some tree; negated = false } ∷ outer
+    grows : (before : Option Tree) (outer : List Branch) → grown (record { before = before; chain = None; negated = false } ∷ outer) (plain_tokens tokens) ≡ record { before = before; chain = Some tree; negated = false } ∷ outer
     refuses : (left : ℕ) → RefusesAt tokens left → HasRefused tree
 
   pub record AnyRead (tree : Tree) (text rest : List ℕ) : Type 0 where
     pub tokens : List Token
     pub takes : Takes (text ++ rest) rest tokens
     pub branch : Branch
-    pub grows : (outer : List Branch) → grown (fresh ∷ outer) (plain_steps tokens) ≡ branch ∷ outer
+    pub grows : (outer : List Branch) → grown (fresh ∷ outer) (plain_tokens tokens) ≡ branch ∷ outer
     pub tree_is : whole branch ≡ tree
     pub even : branch.negated ≡ false
     pub refuses : (left : ℕ) → RefusesAt tokens left → HasRefused tree
@@ -173,7 +169,7 @@ module _ (dict : Definitions) where
     tokens : List Token
     takes : (depth : ℕ) (out : List Token) (total : List Token × Option Wrong) → At depth true out (signs ++ text) total → At depth true (out ++ tokens) text total
     grows : (before chain : Option Tree) (negated : Bool) (outer : List Branch)
-        → grown (record { before = before; chain = chain; negated = negated } ∷ outer) (plain_steps tokens) ≡ record { before = before; chain = chain; negated = turned odd negated } ∷ outer
+        → grown (record { before = before; chain = chain; negated = negated } ∷ outer) (plain_tokens tokens) ≡ record { before = before; chain = chain; negated = turned odd negated } ∷ outer
     refuses : (left : ℕ) → RefusesAt tokens left → ⊥
 
   turned_twice : (odd negated : Bool) → turned odd (not negated) ≡ turned (not odd) negated
@@ -234,7 +230,7 @@ module _ (dict : Definitions) where
     tokens : List Token
     takes : Takes (text ++ rest) rest tokens
     grows : (before chain : Option Tree) (outer : List Branch)
-        → grown (record { before = before; chain = chain; negated = false } ∷ outer) (plain_steps tokens) ≡ record { before = before; chain = Some (anded chain tree); negated = false } ∷ outer
+        → grown (record { before = before; chain = chain; negated = false } ∷ outer) (plain_tokens tokens) ≡ record { before = before; chain = Some (anded chain tree); negated = false } ∷ outer
     refuses : (left : ℕ) → RefusesAt tokens left → HasRefused tree
 
   turned_false : (odd : Bool) → turned odd false ≡ odd
@@ -242,7 +238,7 @@ module _ (dict : Definitions) where
   turned_false true = refl
   turned_false false = refl
 
-  atom_factor : {a : Atom} {text : List ℕ} → IsAtom dict a text → {rest : List ℕ} → Ends rest → FactorRead (Leaf a None) text rest
+  atom_factor : {a : Atom} {text : List ℕ} → IsAtom dict a text → {rest : List ℕ} → Ends rest → FactorRead (Leaf a) text rest
   atom_factor {a} {text} is {rest} ends =
       let read = atom_read dict is ends in
       let front = atom_front dict is in
@@ -250,7 +246,7 @@ module _ (dict : Definitions) where
         tokens = token.Atom read.one ∷ [];
         takes = λ depth out total so_far.
             one_taken depth true out (text ++ rest) total (token.Atom read.one) rest (front.some rest) (longer text rest front) (atom_token text rest read.one depth front read.reads) so_far;
-        grows = λ g outer. grown_one (g ∷ outer) (plain_step (token.Atom read.one)) ∙ ap (λ (b : Atom). given (Leaf b None) g ∷ outer) read.same;
+        grows = λ g outer. grown_one (g ∷ outer) (plain_token (token.Atom read.one)) ∙ ap (λ (b : Atom). given (Leaf b) g ∷ outer) read.same;
         refuses = λ left at. elim at [ inl here ↦ subst (λ (b : Atom). IsNotTaken (pattern_of_atom b)) read.same (refused_atom read.one left here) | inr later ↦ absurd later ];
       }
 
@@ -272,9 +268,9 @@ module _ (dict : Definitions) where
             let flat : At depth false ((opens ++ read.tokens) ++ token.Close ∷ []) (after_blanks rest) total = subst (λ (d : ℕ). At d false ((opens ++ read.tokens) ++ token.Close ∷ []) (after_blanks rest) total) level shut in
             subst (λ (ts : List Token). At depth false ts (after_blanks rest) total) (append_assoc opens read.tokens (token.Close ∷ []) ∙ append_assoc out (token.Open ∷ []) (read.tokens ++ token.Close ∷ [])) flat;
         grows = λ g outer.
-            tokens_then (g ∷ outer) (fresh ∷ g ∷ outer) (token.Open ∷ []) (read.tokens ++ token.Close ∷ []) (grown_one (g ∷ outer) (plain_step token.Open))
+            tokens_then (g ∷ outer) (fresh ∷ g ∷ outer) (token.Open ∷ []) (read.tokens ++ token.Close ∷ []) (grown_one (g ∷ outer) (plain_token token.Open))
             ∙ tokens_then (fresh ∷ g ∷ outer) (read.branch ∷ g ∷ outer) read.tokens (token.Close ∷ []) (read.grows (g ∷ outer))
-            ∙ grown_one (read.branch ∷ g ∷ outer) (plain_step token.Close) ∙ ap (λ (t : Tree). given t g ∷ outer) read.tree_is;
+            ∙ grown_one (read.branch ∷ g ∷ outer) (plain_token token.Close) ∙ ap (λ (t : Tree). given t g ∷ outer) read.tree_is;
         refuses = λ left at. elim at [
           | inl here ↦ absurd here
           | inr later ↦ elim (refused_split read.tokens (token.Close ∷ []) left later) [
@@ -295,7 +291,7 @@ module _ (dict : Definitions) where
         subst (λ (ts : List Token). At depth false ts (after_blanks rest) total) (append_assoc out first.tokens read.tokens) (read.takes depth (out ++ first.tokens) total (first.takes depth out total here));
     grows = λ before chain outer.
         tokens_then (record { before = before; chain = chain; negated = false } ∷ outer) (record { before = before; chain = chain; negated = turned odd false } ∷ outer) first.tokens read.tokens (first.grows before chain false outer)
-        ∙ ap (λ (b : Bool). grown (record { before = before; chain = chain; negated = b } ∷ outer) (plain_steps read.tokens)) (turned_false odd)
+        ∙ ap (λ (b : Bool). grown (record { before = before; chain = chain; negated = b } ∷ outer) (plain_tokens read.tokens)) (turned_false odd)
         ∙ read.grows (record { before = before; chain = chain; negated = odd }) outer;
     refuses = λ left at. elim (refused_split first.tokens read.tokens left at) [
       | inl among ↦ absurd (first.refuses left among)
@@ -319,7 +315,7 @@ module _ (dict : Definitions) where
         grows = λ before outer.
             let begun = record { before = before; chain = Some a; negated = false } ∷ outer in
             tokens_then (record { before = before; chain = None; negated = false } ∷ outer) begun first.tokens (token.And ∷ second.tokens) (first.grows before outer)
-            ∙ tokens_then begun begun (token.And ∷ []) second.tokens (grown_one begun (plain_step token.And)) ∙ second.grows before (Some a) outer;
+            ∙ tokens_then begun begun (token.And ∷ []) second.tokens (grown_one begun (plain_token token.And)) ∙ second.grows before (Some a) outer;
         refuses = λ left at. elim (refused_split first.tokens (token.And ∷ second.tokens) left at) [
           | inl one ↦ inl (first.refuses left one)
           | inr others ↦ elim others [ inl here ↦ absurd here | inr later ↦ inr (second.refuses left later) ]
@@ -351,7 +347,7 @@ module _ (dict : Definitions) where
         grows = λ outer.
             tokens_then (fresh ∷ outer) (first.branch ∷ outer) first.tokens (token.Or ∷ second.tokens) (first.grows outer)
             ∙ tokens_then (first.branch ∷ outer) (record { before = Some a; chain = None; negated = false } ∷ outer) (token.Or ∷ []) second.tokens
-            (grown_one (first.branch ∷ outer) (plain_step token.Or)
+            (grown_one (first.branch ∷ outer) (plain_token token.Or)
             ∙ ap (λ (b : Bool). record { before = Some (whole first.branch); chain = None; negated = b } ∷ outer) first.even
             ∙ ap (λ (t : Tree). record { before = Some t; chain = None; negated = false } ∷ outer) first.tree_is)
             ∙ second.grows (Some a) outer;

@@ -5,15 +5,15 @@ pub mod Sides
 pub mod Atoms
 pub mod Tokens
 pub mod Patterns
-pub mod Texts
 pub mod Looks
+pub mod Texts
 pub mod Tests
 pub mod Machine
 pub mod Trees
+pub mod Codes
 pub mod Faults
 pub mod Steps
 pub mod Conditions
-pub mod Laws
 pub mod Written
 pub mod Outlines
 pub mod Places

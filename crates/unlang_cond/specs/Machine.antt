@@ -1,13 +1,11 @@
 -- The evaluation of a condition step by step, with a group for each open parenthesis. This project's own form; what it comes to is
 -- said by the condition's tree.
 use Rattle.std.specs.Prelude.{Bool, true, false, not, List, [], ◌∷◌, reverse, Option, Some, None}
-use Rattle.regex.specs.declared.bytes.regex.Regex.{Regex}
 use Rattle.rad_value.specs.declared.scope.Scope.{Scope}
 use Rattle.rad_dict.specs.Definitions.{Definitions}
 use Rattle.unlang_cond.specs.declared.atom.Atom.{Atom}
 use Rattle.unlang_cond.specs.declared.atom.Token.{Token}
 use Rattle.unlang_cond.specs.declared.atom.Token.TheVariants as token
-use Rattle.unlang_cond.specs.declared.groups.Step.{Step}
 use Rattle.unlang_cond.specs.declared.groups.Progress.{Progress}
 use Rattle.unlang_cond.specs.declared.groups.Progress.TheVariants.{Met, Failed, Going}
 use Rattle.unlang_cond.specs.declared.groups.Group.{Group}
@@ -77,28 +75,27 @@ closing (g ∷ []) = g ∷ []
 closing (g ∷ p ∷ outer) = group (shut p.negated p.progress g.progress) false ∷ outer
 
 -- A group behind an atom.
-abbrev pub atom_taken : Atom → Option Regex → Group → Scope → Definitions → Group × Scope
-atom_taken a pattern g scope dict =
-    (group (took (λ s. test a pattern s dict) g.negated g.progress scope).0 false, (took (λ s. test a pattern s dict) g.negated g.progress scope).1)
+abbrev pub atom_taken : Atom → Group → Scope → Definitions → Group × Scope
+atom_taken a g scope dict =
+    (group (took (λ s. test a s dict) g.negated g.progress scope).0 false, (took (λ s. test a s dict) g.negated g.progress scope).1)
 
 -- The groups and the scope behind a token.
-abbrev pub advanced_by : Token → Option Regex → Group → List Group → Scope → Definitions → List Group × Scope
-advanced_by token.Not pattern g outer scope dict = (group g.progress (not g.negated) ∷ outer, scope)
-advanced_by token.Open pattern g outer scope dict = (opening (g ∷ outer), scope)
-advanced_by token.Close pattern g outer scope dict = (closing (g ∷ outer), scope)
-advanced_by token.And pattern g outer scope dict = (g ∷ outer, scope)
-advanced_by token.Or pattern g outer scope dict = (group (alternative g.progress) g.negated ∷ outer, scope)
-advanced_by (token.Atom a) pattern g outer scope dict =
-    ((atom_taken a pattern g scope dict).0 ∷ outer, (atom_taken a pattern g scope dict).1)
+abbrev pub advanced_by : Token → Group → List Group → Scope → Definitions → List Group × Scope
+advanced_by token.Not g outer scope dict = (group g.progress (not g.negated) ∷ outer, scope)
+advanced_by token.Open g outer scope dict = (opening (g ∷ outer), scope)
+advanced_by token.Close g outer scope dict = (closing (g ∷ outer), scope)
+advanced_by token.And g outer scope dict = (g ∷ outer, scope)
+advanced_by token.Or g outer scope dict = (group (alternative g.progress) g.negated ∷ outer, scope)
+advanced_by (token.Atom a) g outer scope dict = ((atom_taken a g scope dict).0 ∷ outer, (atom_taken a g scope dict).1)
 
-abbrev pub advance : Step → List Group → Scope → Definitions → List Group × Scope
-advance step [] scope dict = ([], scope)
-advance step (g ∷ outer) scope dict = advanced_by step.token step.pattern g outer scope dict
+abbrev pub advance : Token → List Group → Scope → Definitions → List Group × Scope
+advance t [] scope dict = ([], scope)
+advance t (g ∷ outer) scope dict = advanced_by t g outer scope dict
 
--- All steps, in order.
-unfoldable pub run : List Step → List Group → Scope → Definitions → List Group × Scope
+-- All tokens, in order.
+unfoldable pub run : List Token → List Group → Scope → Definitions → List Group × Scope
 run [] groups scope dict = (groups, scope)
-run (step ∷ steps) groups scope dict = run steps (advance step groups scope dict).0 (advance step groups scope dict).1 dict
+run (t ∷ tokens) groups scope dict = run tokens (advance t groups scope dict).0 (advance t groups scope dict).1 dict
 
 -- Whether the innermost group holds.
 abbrev pub top_met : List Group → Bool

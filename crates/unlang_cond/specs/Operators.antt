@@ -1,5 +1,5 @@
 -- The operators of comparisons, after unlang(5): of the fourteen of the configuration's grammar, the longest that stands next.
-use Rattle.std.specs.Prelude.{ℕ, Bool, true, false, ◌&&◌, ◌==◌, List, drop, slice_index, Option, Some, None, unwrap_or, if◌then◌else◌}
+use Rattle.std.specs.Prelude.{ℕ, true, false, ◌&&◌, ◌==◌, List, drop, slice_index, Option, Some, None, unwrap_or, if◌then◌else◌}
 use Rattle.rad_value.specs.declared.comparison.Cmp.TheVariants.{Eq, Ne, Lt, Le, Gt, Ge}
 use Rattle.rad_conf.specs.Signs.{operator_at}
 use Rattle.unlang_cond.specs.declared.operator.Relation.{Relation}

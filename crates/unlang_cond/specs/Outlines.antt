@@ -19,10 +19,10 @@ unplaced (atom.Values reference cmp operand) = atom.Values reference cmp operand
 unplaced (atom.Texts left cmp right) = atom.Texts left cmp right
 unplaced (atom.Look side negative pattern) = atom.Look side negative (pattern_of pattern.source pattern.insensitive)
 
--- A tree apart from where its patterns stand and from what they are compiled to.
+-- A tree apart from where its patterns stand.
 abbrev pub outline : Tree → Tree
 outline Always = Always
-outline (Leaf a pattern) = Leaf (unplaced a) None
+outline (Leaf a) = Leaf (unplaced a)
 outline (Not t) = Not (outline t)
 outline (And a b) = And (outline a) (outline b)
 outline (Or a b) = Or (outline a) (outline b)
@@ -35,7 +35,7 @@ IsNotTaken (Some pattern) = IsRefused pattern
 -- A pattern of the tree is refused.
 abbrev pub HasRefused : Tree → Type 0
 HasRefused Always = ⊥
-HasRefused (Leaf a pattern) = IsNotTaken (pattern_of_atom a)
+HasRefused (Leaf a) = IsNotTaken (pattern_of_atom a)
 HasRefused (Not t) = HasRefused t
 HasRefused (And a b) = HasRefused a ⊎ HasRefused b
 HasRefused (Or a b) = HasRefused a ⊎ HasRefused b
@@ -76,7 +76,7 @@ enclosed true text = 40 ∷ (text ++ 41 ∷ [])
 -- A tree as it is written there, with each atom as it is spelled.
 abbrev pub text_at : (Atom → List ℕ) → Place → Tree → List ℕ
 text_at spell place Always = []
-text_at spell place (Leaf a pattern) = spell a
+text_at spell place (Leaf a) = spell a
 text_at spell place (Not t) = enclosed (parts_not place) (33 ∷ text_at spell BehindNot t)
 text_at spell place (And a b) = enclosed (parts_and place) (text_at spell BesideOr a ++ (codes " && " ++ text_at spell BesideAnd b))
 text_at spell place (Or a b) = enclosed (parts_or place) (text_at spell Whole a ++ (codes " || " ++ text_at spell BesideOr b))
@@ -88,8 +88,7 @@ cond_text spell tree = text_at spell Whole tree
 -- Each atom of the tree is spelled so. A tree that always holds stands in no text.
 abbrev pub IsSpelled : Definitions → (Atom → List ℕ) → Tree → Type 0
 IsSpelled dict spell Always = ⊥
-IsSpelled dict spell (Leaf a None) = IsAtom dict a (spell a)
-IsSpelled dict spell (Leaf a (Some regex)) = ⊥
+IsSpelled dict spell (Leaf a) = IsAtom dict a (spell a)
 IsSpelled dict spell (Not t) = IsSpelled dict spell t
 IsSpelled dict spell (And a b) = IsSpelled dict spell a × IsSpelled dict spell b
 IsSpelled dict spell (Or a b) = IsSpelled dict spell a × IsSpelled dict spell b

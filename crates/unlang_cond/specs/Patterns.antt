@@ -1,13 +1,15 @@
 -- Patterns, by the regular expressions of the crate `regex` over bytes, with its defaults: what one means is what its grammar
 -- reads in the text. That a pattern has no `%{` is this project's own.
-use Rattle.std.specs.Prelude.{◌≡◌, ◌≢◌, ◌⊎◌, IsTrue, ℕ, Bool, false, ◌&&◌, ◌||◌, ◌==◌, List, [], ◌∷◌, slice_index, Option, Some, None, IsUtf8}
+use Rattle.std.specs.Prelude.{◌≡◌, ◌≢◌, ◌⊎◌, ◌≤◌, IsTrue, ℕ, Bool, false, ◌&&◌, ◌||◌, ◌==◌, List, [], ◌∷◌, slice_index, Option, Some, None, IsSomeAnd, IsUtf8, chars}
 use Rattle.regex.specs.declared.bytes.regex.Regex.{Regex}
 use Rattle.regex.specs.declared.error.Error.{Error}
 use Rattle.regex.specs.declared.error.Error.TheVariants.{OutOfMemory}
-use Rattle.regex.specs.Patterns.{Config, default_config}
-use Rattle.regex.specs.Bytes.{regex_source, regex_config, IsReadFromSource}
+use Rattle.regex.specs.Patterns.{Config, Re, default_config}
+use Rattle.regex.specs.Bytes.{regex_config, IsReadFromSource}
 use Rattle.regex.specs.Sources.{IsRefusal}
 use Rattle.regex.specs.Failures.{IsRightKind}
+use Rattle.regex_syntax.specs.Brackets.{Nested}
+use Rattle.regex_syntax.specs.Grammar.{Names, read}
 use Rattle.unlang_cond.specs.declared.atom.Pattern.{Pattern}
 
 -- `%{` stands in the text.
@@ -19,10 +21,22 @@ has_expansion (c ∷ rest) = (c == 37 && slice_index rest 0 == 123) || has_expan
 abbrev pub config_of : Bool → Config
 config_of insensitive = record default_config { utf8 = false; flags = record default_config.flags { case_insensitive = insensitive } }
 
--- The compiled pattern is what the grammar reads in the text under these options.
-pub record IsRegexOf (source : List ℕ) (insensitive : Bool) (regex : Regex) : Type 0 where
-  pub source_is : regex_source regex ≡ source
-  pub config_is : regex_config regex ≡ config_of insensitive
+-- The regular expression that a text writes, with how deep it nests and the names of its groups, if it writes one; and whether
+-- letters match in either case.
+abbrev pub expression_of : List ℕ → Bool → Option (Nested Re × Names)
+expression_of source insensitive = read (config_of insensitive) (chars source)
+
+-- The text writes one that nests no deeper than `regex` allows.
+abbrev pub IsReadable : List ℕ → Bool → Type 0
+IsReadable source insensitive = IsSomeAnd (expression_of source insensitive) (λ (re, names). re.depth ≤ default_config.nest_limit)
+
+-- Whether letters match in either case in a compiled pattern.
+abbrev pub is_insensitive : Regex → Bool
+is_insensitive regex = (regex_config regex).flags.case_insensitive
+
+-- A compiled pattern is what the grammar reads in its text, under the options of a pattern.
+pub record IsOfText (regex : Regex) : Type 0 where
+  pub config_is : regex_config regex ≡ config_of (is_insensitive regex)
   pub read : IsReadFromSource regex
 
 -- `regex` refuses the text under these options, for another cause than memory.
@@ -32,21 +46,22 @@ pub record IsRefusedByRegex (source : List ℕ) (insensitive : Bool) : Type 0 wh
   pub by_grammar : IsRefusal (config_of insensitive) source error
   pub kind : IsRightKind (config_of insensitive) source error
 
--- What `regex` answers for a text.
-abbrev pub IsBuilt : List ℕ → Bool → Option Regex → Type 0
-IsBuilt source insensitive (Some regex) = IsRegexOf source insensitive regex
+-- What `regex` answers for a text: a compiled pattern that is known by its text and its options, or none.
+abbrev pub IsBuilt : List ℕ → Bool → Option (List ℕ × Bool) → Type 0
+IsBuilt source insensitive (Some compiled) = (compiled ≡ (source, insensitive)) × IsReadable source insensitive
 IsBuilt source insensitive None = IsRefusedByRegex source insensitive
 
 -- A pattern is refused where it contains `%{`, is no UTF-8, or is refused by `regex`.
 abbrev pub IsRefused : Pattern → Type 0
 IsRefused pattern = IsTrue (has_expansion pattern.source) ⊎ (¬ IsUtf8 pattern.source) ⊎ IsRefusedByRegex pattern.source pattern.insensitive
 
--- It is accepted and compiled where it contains no `%{`, is UTF-8, and `regex` reads it.
-pub record IsCompiled (pattern : Pattern) (regex : Regex) : Type 0 where
+-- One that is taken contains no `%{`, is UTF-8, and writes a regular expression.
+pub record IsTaken (pattern : Pattern) : Type 0 where
   pub plain : has_expansion pattern.source ≡ false
   pub text : IsUtf8 pattern.source
-  pub regex_is : IsRegexOf pattern.source pattern.insensitive regex
+  pub readable : IsReadable pattern.source pattern.insensitive
 
-abbrev pub IsAnswerTo : Pattern → Option Regex → Type 0
-IsAnswerTo pattern (Some regex) = IsCompiled pattern regex
+-- The pattern is taken and compiled, or it is refused.
+abbrev pub IsAnswerTo : Pattern → Option (List ℕ × Bool) → Type 0
+IsAnswerTo pattern (Some compiled) = (compiled ≡ (pattern.source, pattern.insensitive)) × IsTaken pattern
 IsAnswerTo pattern None = IsRefused pattern

@@ -1,6 +1,5 @@
 -- The steps of a condition: its tokens, each with its pattern compiled, or the refusal of a pattern. This project's own.
-use Rattle.std.specs.Prelude.{◌≡◌, ◌⊎◌, ℕ, List, [], ◌∷◌, map, Option, Some, None}
-use Rattle.regex.specs.declared.bytes.regex.Regex.{Regex}
+use Rattle.std.specs.Prelude.{◌≡◌, ◌⊎◌, ℕ, Bool, List, [], ◌∷◌, map, Option, Some, None}
 use Rattle.rad_text.specs.declared.read.ReadError.{ReadError}
 use Rattle.rad_text.specs.declared.read.ReadError.TheVariants as errors
 use Rattle.unlang_cond.specs.declared.atom.Pattern.{Pattern}
@@ -9,7 +8,7 @@ use Rattle.unlang_cond.specs.declared.atom.Atom.TheVariants as atom
 use Rattle.unlang_cond.specs.declared.atom.Token.{Token}
 use Rattle.unlang_cond.specs.declared.atom.Token.TheVariants as token
 use Rattle.unlang_cond.specs.declared.groups.Step.{Step}
-use Rattle.unlang_cond.specs.Patterns.{IsCompiled, IsRefused}
+use Rattle.unlang_cond.specs.Patterns.{IsTaken, IsRefused}
 
 -- The tokens of steps.
 abbrev pub tokens_in : List Step → List Token
@@ -33,10 +32,10 @@ pattern_in token.Or = None
 pattern_in (token.Atom a) = pattern_of_atom a
 
 -- A pattern is compiled where there is one.
-abbrev pub IsReady : Option Pattern → Option Regex → Type 0
-IsReady None regex = regex ≡ None
+abbrev pub IsReady : Option Pattern → Option (List ℕ × Bool) → Type 0
+IsReady None compiled = compiled ≡ None
 IsReady (Some pattern) None = ⊥
-IsReady (Some pattern) (Some regex) = IsCompiled pattern regex
+IsReady (Some pattern) (Some compiled) = (compiled ≡ (pattern.source, pattern.insensitive)) × IsTaken pattern
 
 pub record IsReadyStep (t : Token) (step : Step) : Type 0 where
   pub token_is : step.token ≡ t
@@ -45,6 +44,15 @@ pub record IsReadyStep (t : Token) (step : Step) : Type 0 where
 abbrev pub AreReady : List Step → Type 0
 AreReady [] = Unit {0}
 AreReady (step ∷ steps) = IsReadyStep step.token step × AreReady steps
+
+-- A pattern is taken where there is one, and each pattern of tokens is.
+abbrev pub IsFit : Option Pattern → Type 0
+IsFit None = Unit {0}
+IsFit (Some pattern) = IsTaken pattern
+
+abbrev pub AreFit : List Token → Type 0
+AreFit [] = Unit {0}
+AreFit (t ∷ tokens) = IsFit (pattern_in t) × AreFit tokens
 
 -- The steps of these tokens, with each pattern compiled.
 pub record AreSteps (tokens : List Token) (steps : List Step) : Type 0 where

@@ -1,9 +1,8 @@
 -- What an atom of a condition says of a scope, after unlang(5). That a comparison whose left side has no value is false, and
 -- what it does with unlike kinds, are this project's own.
-use Rattle.std.specs.Prelude.{◌≡◌, ℕ, Bool, true, false, not, ◌==◌, nat_lt, List, [], ◌∷◌, length, replicate, Option, Some, None, unwrap_or, if◌then◌else◌}
+use Rattle.std.specs.Prelude.{◌≡◌, ℕ, Bool, false, not, ◌==◌, nat_lt, List, [], ◌∷◌, length, replicate, Option, Some, None, unwrap_or, if◌then◌else◌}
 use Rattle.std.specs.Option.{option_to_list}
 use Rattle.std.specs.List.{list_any}
-use Rattle.regex.specs.declared.bytes.regex.Regex.{Regex}
 use Rattle.rad_words.specs.declared.codes.Code.{Code}
 use Rattle.rad_words.specs.declared.codes.Code.TheVariants as code
 use Rattle.rad_value.specs.declared.values.Value.{Value}
@@ -22,7 +21,7 @@ use Rattle.unlang_cond.specs.declared.atom.Atom.TheVariants as atom
 use Rattle.unlang_cond.specs.Expansions.{expansion_text}
 use Rattle.unlang_cond.specs.Sides.{value_read}
 use Rattle.unlang_cond.specs.Texts.{texts_hold}
-use Rattle.unlang_cond.specs.Looks.{looked}
+use Rattle.unlang_cond.specs.Looks.{looked_for}
 
 -- The place of a code among the nine, from 0.
 abbrev pub place_of : Code → ℕ
@@ -82,21 +81,20 @@ abbrev pub after_look : Bool → Option (List (Option (List ℕ))) → Scope →
 after_look negative None scope = (negative, with_captures scope (replicate 9 None))
 after_look negative (Some captures) scope = (not negative, with_captures scope captures)
 
--- A look in a text, which has to be there. A condition that was read has each pattern compiled.
-abbrev pub look_in : Option (List ℕ) → Bool → Option Regex → Scope → Bool × Scope
-look_in None negative regex scope = (false, scope)
-look_in (Some text) negative None scope = (false, scope)
-look_in (Some text) negative (Some regex) scope = after_look negative (looked regex text) scope
+-- A look in a text, which has to be there, for the pattern of this text; and whether letters match in either case.
+abbrev pub look_in : Option (List ℕ) → Bool → List ℕ × Bool → Scope → Bool × Scope
+look_in None negative pattern scope = (false, scope)
+look_in (Some text) negative pattern scope = after_look negative (looked_for pattern.0 pattern.1 text) scope
 
--- What an atom with its compiled pattern, if any, says of a scope, and the scope after it.
-abbrev pub test : Atom → Option Regex → Scope → Definitions → Bool × Scope
-test (atom.Constant constant) regex scope dict = (constant, scope)
-test (atom.Returned c) regex scope dict = (is_code scope.last c, scope)
-test (atom.Present s) regex scope dict = (is_present s scope dict, scope)
-test (atom.Values reference cmp o) regex scope dict =
+-- What an atom says of a scope, and the scope after it.
+abbrev pub test : Atom → Scope → Definitions → Bool × Scope
+test (atom.Constant constant) scope dict = (constant, scope)
+test (atom.Returned c) scope dict = (is_code scope.last c, scope)
+test (atom.Present s) scope dict = (is_present s scope dict, scope)
+test (atom.Values reference cmp o) scope dict =
     (values_hold (values_of reference scope.lists) cmp (operand_values reference o scope dict), scope)
-test (atom.Texts left cmp right) regex scope dict = (both_hold (side_text left scope dict) cmp (side_text right scope dict), scope)
-test (atom.Look s negative pattern) regex scope dict = look_in (side_text s scope dict) negative regex scope
+test (atom.Texts left cmp right) scope dict = (both_hold (side_text left scope dict) cmp (side_text right scope dict), scope)
+test (atom.Look s negative pattern) scope dict = look_in (side_text s scope dict) negative (pattern.source, pattern.insensitive) scope
 
 -- The scope changed in its captures alone.
 abbrev pub OnlyCaptures : Scope → Scope → Type 0

@@ -1,18 +1,16 @@
 -- A condition as a tree of atoms, and what it says of a scope, after unlang(5): sides are tried from the left and only as far as
 -- needed.
 use Rattle.std.specs.Prelude.{Bool, true, false, not, List, [], ◌∷◌, Option, Some, None, if◌then◌else◌}
-use Rattle.regex.specs.declared.bytes.regex.Regex.{Regex}
 use Rattle.rad_value.specs.declared.scope.Scope.{Scope}
 use Rattle.rad_dict.specs.Definitions.{Definitions}
 use Rattle.unlang_cond.specs.declared.atom.Atom.{Atom}
 use Rattle.unlang_cond.specs.declared.atom.Token.{Token}
 use Rattle.unlang_cond.specs.declared.atom.Token.TheVariants as token
-use Rattle.unlang_cond.specs.declared.groups.Step.{Step}
 use Rattle.unlang_cond.specs.Tests.{test}
 
 pub data Tree : Type 0 where
   Always : Tree
-  Leaf : Atom → Option Regex → Tree
+  Leaf : Atom → Tree
   Not : Tree → Tree
   And : Tree → Tree → Tree
   Or : Tree → Tree → Tree
@@ -20,7 +18,7 @@ pub data Tree : Type 0 where
 -- What a condition says of a scope, and the scope after it.
 abbrev pub holds : Tree → Scope → Definitions → Bool × Scope
 holds Always scope dict = (true, scope)
-holds (Leaf a pattern) scope dict = test a pattern scope dict
+holds (Leaf a) scope dict = test a scope dict
 holds (Not t) scope dict = (not (holds t scope dict).0, (holds t scope dict).1)
 holds (And a b) scope dict = if (holds a scope dict).0 then holds b (holds a scope dict).1 dict else (false, (holds a scope dict).1)
 holds (Or a b) scope dict = if (holds a scope dict).0 then (true, (holds a scope dict).1) else holds b (holds a scope dict).1 dict
@@ -67,26 +65,26 @@ closed g [] = g ∷ []
 closed g (p ∷ outer) = given (whole g) p ∷ outer
 
 -- The open groups, the innermost first, behind a token.
-abbrev pub grown_by : Token → Option Regex → Branch → List Branch → List Branch
-grown_by token.Not pattern g outer = record { before = g.before; chain = g.chain; negated = not g.negated } ∷ outer
-grown_by token.Open pattern g outer = fresh ∷ g ∷ outer
-grown_by token.Close pattern g outer = closed g outer
-grown_by token.And pattern g outer = g ∷ outer
-grown_by token.Or pattern g outer = record { before = Some (whole g); chain = None; negated = g.negated } ∷ outer
-grown_by (token.Atom a) pattern g outer = given (Leaf a pattern) g ∷ outer
+abbrev pub grown_by : Token → Branch → List Branch → List Branch
+grown_by token.Not g outer = record { before = g.before; chain = g.chain; negated = not g.negated } ∷ outer
+grown_by token.Open g outer = fresh ∷ g ∷ outer
+grown_by token.Close g outer = closed g outer
+grown_by token.And g outer = g ∷ outer
+grown_by token.Or g outer = record { before = Some (whole g); chain = None; negated = g.negated } ∷ outer
+grown_by (token.Atom a) g outer = given (Leaf a) g ∷ outer
 
-abbrev pub grow : Step → List Branch → List Branch
-grow step [] = []
-grow step (g ∷ outer) = grown_by step.token step.pattern g outer
+abbrev pub grow : Token → List Branch → List Branch
+grow t [] = []
+grow t (g ∷ outer) = grown_by t g outer
 
-unfoldable pub grown : List Branch → List Step → List Branch
+unfoldable pub grown : List Branch → List Token → List Branch
 grown branches [] = branches
-grown branches (step ∷ steps) = grown (grow step branches) steps
+grown branches (t ∷ tokens) = grown (grow t branches) tokens
 
 abbrev pub innermost : List Branch → Tree
 innermost [] = Always
 innermost (g ∷ outer) = whole g
 
--- The tree that the steps of a condition write.
-abbrev pub tree_of : List Step → Tree
-tree_of steps = innermost (grown (fresh ∷ []) steps)
+-- The tree that the tokens of a condition write.
+abbrev pub tree_of : List Token → Tree
+tree_of tokens = innermost (grown (fresh ∷ []) tokens)

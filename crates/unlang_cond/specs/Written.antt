@@ -152,7 +152,7 @@ module _ (dict : Definitions) where
   mutual
     -- An atom, or a condition in parentheses.
     pub data IsFactor : Tree → List ℕ → Type 0 where
-      alone : (a : Atom) (text : List ℕ) → IsAtom a text → IsFactor (Leaf a None) text
+      alone : (a : Atom) (text : List ℕ) → IsAtom a text → IsFactor (Leaf a) text
       group : (tree : Tree) (gap text behind : List ℕ) → IsGap gap → IsAny tree text → IsGap behind → IsFactor tree (40 ∷ (gap ++ (text ++ (behind ++ 41 ∷ []))))
 
     -- The same behind as many `!` as are written: an odd number of them is one, an even number none.

@@ -1,8 +1,6 @@
 //! Conditions.
 
 ghost use Rattle.std.specs.Prelude.{◌≡◌};
-ghost use Rattle.unlang_cond.specs.Tokens.{depth_from};
-ghost use Rattle.unlang_cond.specs.Steps.{tokens_in};
 
 use crate::CondFault;
 use crate::cutting::{Cut, tokens_of};
@@ -13,24 +11,43 @@ use rad_dict::Dict;
 use rad_outside::NoMemory;
 use rad_value::Scope;
 use std::alloc::Global;
+use std::marker::Model;
 
-/// A condition that was read, with its patterns compiled.
+/// A condition that was read, with its patterns compiled. Contracts see it as its tree of atoms, in which a pattern is its text.
 #[derive(Drop)]
 pub struct Cond {
     steps: Vec<Step>,
-    pub ghost closed: { depth_from 0 (tokens_in steps.items) ≡ 0 },
+}
+
+impl Model for Cond {
+    ghost use Rattle.std.specs.Prelude.{◌≡◌};
+    ghost use Rattle.unlang_cond.specs.Trees.{Tree, tree_of};
+    ghost use Rattle.unlang_cond.specs.Codes.{tree_code};
+    ghost use Rattle.unlang_cond.specs.Tokens.{depth_from};
+    ghost use Rattle.unlang_cond.specs.Steps.{tokens_in, AreReady};
+
+    ghost Value = { Tree };
+
+    ghost coded = { tree_code };
+
+    ghost view = { λ cond. tree_of (tokens_in cond.steps.items) };
+
+    ghost invariant = { λ cond. AreReady cond.steps.items × (depth_from 0 (tokens_in cond.steps.items) ≡ 0) };
 }
 
 impl Cond {
-    ghost use Rattle.std.specs.Prelude.{IfOk, IfErr};
+    ghost use Rattle.std.specs.Prelude.{Some, IfOk, IfErr, OnOk};
     ghost use Rattle.rad_outside.specs.Moments.{IsInTime};
     ghost use Rattle.unlang_cond.specs.Tests.{OnlyCaptures};
     ghost use Rattle.unlang_cond.specs.Trees.{holds};
-    ghost use Rattle.unlang_cond.specs.Conditions.{condition_of, IsReadAs, IsFaultOf};
+    ghost use Rattle.unlang_cond.specs.Tokens.{tokens_of};
+    ghost use Rattle.unlang_cond.specs.Steps.{AreFit};
+    ghost use Rattle.unlang_cond.specs.Conditions.{condition_of, IsFaultOf};
 
-    /// The condition of a text, or its first fault.
+    /// The condition of a text, or its first fault. One that is read has no pattern that is refused.
     pub fn parse(alloc: Global, text: &[u8], dict: &Dict) -> Result<Cond, CondFault>
-        ensures read { IfOk result (λ cond. IsReadAs cond text.now dict.now) }
+        ensures read { IfOk result (λ cond. condition_of text.now dict.now ≡ Some cond) }
+        ensures patterns { OnOk result (AreFit (tokens_of text.now dict.now).0) }
         ensures fault { IfErr result (λ fault. IsFaultOf fault text.now dict.now) }
     {
         let Ok(Cut { tokens, wrong }) = tokens_of(alloc, text, dict) else {
@@ -49,7 +66,7 @@ impl Cond {
     /// Whether the condition holds. A look for a pattern sets the scope's captures, and nothing else of the scope changes.
     pub fn holds(&self, alloc: Global, scope: &mut Scope, dict: &Dict) -> Result<bool, NoMemory>
         requires { IsInTime scope.old.moment }
-        ensures holds { IfOk result (λ value. (value, scope.new) ≡ holds (condition_of self.now) scope.old dict.now) }
+        ensures holds { IfOk result (λ value. (value, scope.new) ≡ holds self.now scope.old dict.now) }
         ensures alone { OnlyCaptures scope.old scope.new }
     {
         let mut groups = Groups::new(alloc);

@@ -4,21 +4,22 @@ ghost use Rattle.std.specs.Prelude.{◌≡◌, [], ◌∷◌, IfOk, OnOk};
 ghost use Rattle.std.specs.Option.{option_copied};
 ghost use Rattle.rad_outside.specs.Moments.{IsInTime};
 ghost use Rattle.unlang_cond.specs.Tests.{OnlyCaptures};
+ghost use Rattle.unlang_cond.specs.Steps.{pattern_of_atom, pattern_in, IsReady};
 ghost use Rattle.unlang_cond.specs.Machine.{settled, opened, alternative, shut, fresh_group, groups_of, opening, closing, atom_taken, advance, is_met, top_met};
 
 use crate::atom::{Atom, Token};
+use crate::patterns::CompiledPattern;
 use crate::testing::test;
 use rad_dict::Dict;
 use rad_outside::NoMemory;
 use rad_value::Scope;
-use regex::bytes::Regex;
 use std::alloc::Global;
 
 /// A token of a condition, and its pattern, compiled, where it has one.
 #[derive(Drop)]
 pub struct Step {
     pub token: Token,
-    pub pattern: Option<Regex>,
+    pub pattern: Option<CompiledPattern>,
 }
 
 /// How far a group of operands has come.
@@ -104,17 +105,18 @@ fn after_atom(
     alloc: Global,
     group: Group,
     atom: &Atom,
-    regex: Option<&Regex>,
+    compiled: Option<&CompiledPattern>,
     scope: &mut Scope,
     dict: &Dict,
 ) -> Result<Group, NoMemory>
-    requires { IsInTime scope.old.moment }
-    ensures group { IfOk result (λ next. (next, scope.new) ≡ atom_taken atom.now (option_copied regex.entry) group scope.old dict.now) }
+    requires moment { IsInTime scope.old.moment }
+    requires ready { IsReady (pattern_of_atom atom.now) (option_copied compiled) }
+    ensures group { IfOk result (λ next. (next, scope.new) ≡ atom_taken atom.now group scope.old dict.now) }
     ensures alone { OnlyCaptures scope.old scope.new }
 {
     let progress = match group.progress {
         Some(Progress::Going) => {
-            let value = test(alloc, atom, regex, scope, dict)?;
+            let value = test(alloc, atom, compiled, scope, dict)?;
             Some(settled(group.negated, value))
         }
         other => other,
@@ -168,9 +170,10 @@ impl Groups {
         scope: &mut Scope,
         dict: &Dict,
     ) -> Result<(), NoMemory>
-        requires { IsInTime scope.old.moment }
+        requires moment { IsInTime scope.old.moment }
+        requires ready { IsReady (pattern_in step.now.token) step.now.pattern }
         ensures step { OnOk result ((groups_of self.new, scope.new)
-            ≡ advance step.now (groups_of self.old) scope.old dict.now) }
+            ≡ advance step.now.token (groups_of self.old) scope.old dict.now) }
         ensures alone { OnlyCaptures scope.old scope.new }
     {
         match &step.token {

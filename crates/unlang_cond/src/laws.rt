@@ -1,16 +1,14 @@
 //! How conditions are read, in the words of whoever writes them: facts about the definitions alone. The functions do nothing.
 
-ghost use Rattle.std.specs.Prelude.{◌≡◌, ◌⊎◌, ◌<◌, ◌^◌, ℕ, List, [], ◌∷◌, length, Option};
+ghost use Rattle.std.specs.Prelude.{◌≡◌, ◌⊎◌, ◌<◌, ◌^◌, ℕ, List, [], ◌∷◌, length, Some};
+ghost use Rattle.std.specs.Option.{option_map};
 ghost use Rattle.rad_dict.specs.Definitions.{Definitions};
-ghost use Rattle.regex.specs.declared.bytes.regex.Regex.{Regex};
 ghost use Rattle.unlang_cond.specs.declared.atom.Atom.{Atom};
 ghost use Rattle.unlang_cond.specs.declared.atom.Token.TheVariants as token;
-ghost use Rattle.unlang_cond.specs.declared.condition.Cond.{Cond};
 ghost use Rattle.unlang_cond.specs.declared.fault.CondFault.{CondFault};
 ghost use Rattle.unlang_cond.specs.declared.fault.CondFault.TheVariants as fault;
-ghost use Rattle.unlang_cond.specs.Laws.{leaf, sign};
 ghost use Rattle.unlang_cond.specs.Trees.{Tree, Leaf, Not, And, Or, tree_of};
-ghost use Rattle.unlang_cond.specs.Conditions.{condition_of, IsReadAs, IsFaultOf};
+ghost use Rattle.unlang_cond.specs.Conditions.{condition_of, IsFaultOf};
 ghost use Rattle.unlang_cond.specs.Places.{IsToldAt};
 ghost use Rattle.unlang_cond.specs.Written.{IsCondition};
 ghost use Rattle.unlang_cond.specs.Outlines.{outline, HasRefused, cond_text, IsSpelled};
@@ -20,23 +18,23 @@ ghost use Rattle.unlang_cond.specs.Outlines.{outline, HasRefused, cond_text, IsS
 /// `c`.
 #[tactic(auto, unfolding(crate::specs::Trees::grown))]
 pub fn and_binds_tighter_than_or()
-    ensures or_and { (a b c : Atom) (p q r : Option Regex)
-        → tree_of (leaf a p ∷ sign token.Or ∷ leaf b q ∷ sign token.And ∷ leaf c r ∷ []) ≡ Or (Leaf a p) (And (Leaf b q) (Leaf c r)) }
-    ensures and_or { (a b c : Atom) (p q r : Option Regex)
-        → tree_of (leaf a p ∷ sign token.And ∷ leaf b q ∷ sign token.Or ∷ leaf c r ∷ []) ≡ Or (And (Leaf a p) (Leaf b q)) (Leaf c r) }
-    ensures not_and { (a b : Atom) (p q : Option Regex)
-        → tree_of (sign token.Not ∷ leaf a p ∷ sign token.And ∷ leaf b q ∷ []) ≡ And (Not (Leaf a p)) (Leaf b q) }
-    ensures grouped { (a b c : Atom) (p q r : Option Regex)
-        → tree_of (sign token.Open ∷ leaf a p ∷ sign token.Or ∷ leaf b q ∷ sign token.Close ∷ sign token.And ∷ leaf c r ∷ [])
-        ≡ And (Or (Leaf a p) (Leaf b q)) (Leaf c r) }
+    ensures or_and { (a b c : Atom)
+        → tree_of (token.Atom a ∷ token.Or ∷ token.Atom b ∷ token.And ∷ token.Atom c ∷ []) ≡ Or (Leaf a) (And (Leaf b) (Leaf c)) }
+    ensures and_or { (a b c : Atom)
+        → tree_of (token.Atom a ∷ token.And ∷ token.Atom b ∷ token.Or ∷ token.Atom c ∷ []) ≡ Or (And (Leaf a) (Leaf b)) (Leaf c) }
+    ensures not_and { (a b : Atom)
+        → tree_of (token.Not ∷ token.Atom a ∷ token.And ∷ token.Atom b ∷ []) ≡ And (Not (Leaf a)) (Leaf b) }
+    ensures grouped { (a b c : Atom)
+        → tree_of (token.Open ∷ token.Atom a ∷ token.Or ∷ token.Atom b ∷ token.Close ∷ token.And ∷ token.Atom c ∷ [])
+        ≡ And (Or (Leaf a) (Leaf b)) (Leaf c) }
 {}
 
-/// Atoms that `!`, `&&` and `||` join, with parentheses and blanks where they may stand, are read as the tree that they write,
-/// under every dictionary: each atom as the row of unlang(5) by which it is spelled, with its pattern compiled. Such a text is
-/// refused only where `regex` refuses one of its patterns, or where memory runs out.
+/// Atoms that `!`, `&&` and `||` join, with parentheses and blanks where they may stand, are the condition that they write,
+/// under every dictionary: each atom as the row of unlang(5) by which it is spelled. Such a text is refused only where `regex`
+/// refuses one of its patterns, or where memory runs out.
 pub fn written_conditions_are_read_back()
-    ensures read { (dict : Definitions) (tree : Tree) (text : List ℕ) (cond : Cond) → IsCondition dict tree text → IsReadAs cond text dict
-        → outline (condition_of cond) ≡ tree }
+    ensures read { (dict : Definitions) (tree : Tree) (text : List ℕ) → IsCondition dict tree text
+        → option_map outline (condition_of text dict) ≡ Some tree }
     ensures accepted { (dict : Definitions) (tree : Tree) (text : List ℕ) (told : CondFault) → IsCondition dict tree text → IsFaultOf told text dict
         → (told ≡ fault.NoMemory) ⊎ HasRefused tree }
 {}

@@ -1,6 +1,7 @@
 //! Conditions of policies, as unlang(5) writes them behind `if`: read into a flat list of steps, and evaluated over a
-//! request's scope. Their model is a tree of atoms, which `!`, `&&` and `||` join: `steps_read` says which steps a text
-//! has, or its first fault, `tree_of` which tree the steps write, and `holds` what the tree says of a scope. Neither reading
+//! request's scope. Their model is a tree of atoms, which `!`, `&&` and `||` join, and in which a pattern is its text:
+//! `condition_of` is the tree that a text says under a dictionary, if it says one, and `holds` what a tree says of a scope.
+//! What a compiled pattern finds is a function of its text, so nothing compiled is left in what contracts say. Neither reading
 //! nor evaluating recurses, so that a condition may nest as deep as its text goes. Above it stand the statements of policies.
 #![tactic(auto)]
 

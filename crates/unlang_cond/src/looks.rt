@@ -2,6 +2,7 @@
 
 ghost use Rattle.std.specs.Prelude.{◌≡◌, ◌+◌, ◌≤◌, IfOk};
 ghost use Rattle.std.specs.Option.{option_map};
+ghost use Rattle.regex.specs.Bytes.{regex_pattern, group_count};
 ghost use Rattle.unlang_cond.specs.Looks.{cut_out, located, all_located, looked};
 
 use rad_outside::{NoMemory, Octets};
@@ -74,9 +75,9 @@ fn captured(alloc: Global, locations: &CaptureLocations, text: &[u8]) -> Result<
     Ok([a, b, c, d, e, f, g, h, i])
 }
 
-/// The captures of the pattern's leftmost match in a text, if there is one.
+/// The captures of the leftmost match in a text, if there is one.
 pub fn look(alloc: Global, regex: &Regex, text: &[u8]) -> Result<Option<Captures>, NoMemory>
-    ensures { IfOk result (λ captures. captures ≡ looked regex.now text.now) }
+    ensures { IfOk result (λ captures. captures ≡ looked (group_count regex.now) (regex_pattern regex.now) text.now) }
 {
     let mut matcher = regex.matcher(alloc)?;
     let mut locations = regex.capture_locations(alloc)?;

@@ -6,9 +6,8 @@ ghost use Rattle.unlang_cond.specs.Steps.{pattern_in, pattern_of_atom, IsReady, 
 
 use crate::atom::{Atom, Pattern, Token};
 use crate::groups::Step;
-use crate::patterns::compiled;
+use crate::patterns::{CompiledPattern, compiled};
 use rad_text::ReadError;
-use regex::bytes::Regex;
 use std::alloc::Global;
 
 /// The pattern of an atom, if it looks for one.
@@ -32,14 +31,14 @@ fn pattern_in(token: &Token) -> Option<&Pattern>
 }
 
 /// The pattern of a token, compiled; where it is refused, how many octets are left from it on.
-fn regex_of(alloc: Global, token: &Token) -> Result<Option<Regex>, ReadError<usize>>
+fn compiled_of(alloc: Global, token: &Token) -> Result<Option<CompiledPattern>, ReadError<usize>>
     ensures ready { IfOk result (IsReady (pattern_in token.now)) }
     ensures refused { IfErr result (λ error. RefusedBy error (pattern_in token.now)) }
 {
     match pattern_in(token) {
         None => Ok(None),
         Some(pattern) => match compiled(alloc, pattern)? {
-            Some(regex) => Ok(Some(regex)),
+            Some(compiled) => Ok(Some(compiled)),
             None => Err(ReadError::Wrong(pattern.left)),
         },
     }
@@ -50,7 +49,7 @@ fn step_of(alloc: Global, token: Token) -> Result<Step, ReadError<usize>>
     ensures ready { IfOk result (λ step. IsReadyStep token step) }
     ensures refused { IfErr result (λ error. RefusedBy error (pattern_in token)) }
 {
-    let pattern = regex_of(alloc, &token)?;
+    let pattern = compiled_of(alloc, &token)?;
     Ok(Step { token, pattern })
 }
 

@@ -4,11 +4,12 @@ ghost use Rattle.std.specs.Prelude.{◌≡◌, [], ◌∷◌, IfOk};
 ghost use Rattle.std.specs.Option.{option_copied};
 ghost use Rattle.rad_outside.specs.Moments.{IsInTime};
 ghost use Rattle.unlang_reference.specs.Values.{values_of};
+ghost use Rattle.unlang_cond.specs.Steps.{pattern_of_atom, IsReady};
 ghost use Rattle.unlang_cond.specs.Tests.{is_code, side_text, is_present, operand_values, one_holds, values_hold, both_hold, look_in, test, OnlyCaptures};
 
 use crate::atom::{Atom, Operand, Side};
 use crate::expansion::expansion_text;
-use crate::looks::look;
+use crate::patterns::CompiledPattern;
 use crate::sides::value_read;
 use crate::texts::texts_hold;
 use rad_dict::Dict;
@@ -16,7 +17,6 @@ use rad_outside::{NoMemory, Octets};
 use rad_text::ReadError;
 use rad_value::{Cmp, Scope, Value, compare};
 use rad_words::Code;
-use regex::bytes::Regex;
 use std::alloc::Global;
 use unlang_reference::Reference;
 use unlang_xlat::Xlat;
@@ -182,22 +182,19 @@ fn test_look(
     alloc: Global,
     side: &Side,
     negative: bool,
-    regex: Option<&Regex>,
+    compiled: &CompiledPattern,
     scope: &mut Scope,
     dict: &Dict,
 ) -> Result<bool, NoMemory>
     requires { IsInTime scope.old.moment }
     ensures test { IfOk result (λ holds. (holds, scope.new)
-        ≡ look_in (side_text side.now scope.old dict.now) negative (option_copied regex.entry) scope.old) }
+        ≡ look_in (side_text side.now scope.old dict.now) negative compiled.now scope.old) }
     ensures alone { OnlyCaptures scope.old scope.new }
 {
     let Some(text) = side_text(alloc, side, scope, dict)? else {
         return Ok(false);
     };
-    let Some(regex) = regex else {
-        return Ok(false);
-    };
-    match look(alloc, regex, text.as_slice())? {
+    match compiled.look(alloc, text.as_slice())? {
         Some(captures) => {
             scope.captures = captures;
             Ok(!negative)
@@ -209,17 +206,17 @@ fn test_look(
     }
 }
 
-/// What an atom with its compiled pattern, if any, says of a scope.
+/// What an atom says of a scope. Its pattern is compiled, if it looks for one.
 pub fn test(
     alloc: Global,
     atom: &Atom,
-    regex: Option<&Regex>,
+    compiled: Option<&CompiledPattern>,
     scope: &mut Scope,
     dict: &Dict,
 ) -> Result<bool, NoMemory>
-    requires { IsInTime scope.old.moment }
-    ensures test { IfOk result (λ holds. (holds, scope.new)
-        ≡ test atom.now (option_copied regex.entry) scope.old dict.now) }
+    requires moment { IsInTime scope.old.moment }
+    requires ready { IsReady (pattern_of_atom atom.now) (option_copied compiled) }
+    ensures test { IfOk result (λ holds. (holds, scope.new) ≡ test atom.now scope.old dict.now) }
     ensures alone { OnlyCaptures scope.old scope.new }
 {
     match atom {
@@ -230,6 +227,9 @@ pub fn test(
             test_values(alloc, *reference, *cmp, operand, scope, dict)
         }
         Atom::Texts(left, cmp, right) => test_texts(alloc, left, *cmp, right, scope, dict),
-        Atom::Look(side, negative, _) => test_look(alloc, side, *negative, regex, scope, dict),
+        Atom::Look(side, negative, _) => match compiled {
+            Some(compiled) => test_look(alloc, side, *negative, compiled, scope, dict),
+            None => unreachable!(),
+        },
     }
 }

@@ -1,10 +1,10 @@
-use Rattle.std.proofs.Common.{◌≡◌, ◌<◌, ◌++◌, ◌∷◌, [], length, List, ap, sym, ◌∙◌, arith, refl}
+use Rattle.std.proofs.Common.{◌≡◌, ◌<◌, [], length, List, ap, sym, ◌∙◌, arith, refl}
 use Rattle.std.proofs.lemmas.List.{nil_from_length}
 use Rattle.std.proofs.lemmas.Grind.{common_steps}
 use Rattle.unlang_cond.specs.declared.atom.Token.{Token}
 use Rattle.unlang_cond.specs.declared.cutting.Cut.{Cut}
-use Rattle.unlang_cond.specs.Tokens.{depth_from, tokens_of, wrong_at_end, awaits_after, depth_after, StopsAt}
-use Rattle.unlang_cond.proofs.Turns.{Enough, starts, going, stops, is_done, one_deeper, if_both}
+use Rattle.unlang_cond.specs.Tokens.{depth_from, tokens_of, depth_after, StopsAt}
+use Rattle.unlang_cond.proofs.Turns.{starts, going, stops, is_done, one_deeper, if_both}
 use Rattle.unlang_cond.proofs.cutting.tokens_of.Goals as goal
 
 pub loop-rest-init : goal.loop-rest-init

@@ -1,4 +1,4 @@
-use Rattle.std.proofs.Common.{◌≡◌, ◌++◌, ◌∷◌, [], sym, ap, ◌∙◌}
+use Rattle.std.proofs.Common.{◌≡◌, ◌++◌, ◌∷◌, [], ◌∙◌}
 use Rattle.unlang_cond.specs.Steps.{tokens_in}
 use Rattle.unlang_cond.proofs.Ready.{one_ready, all_ready, refused_in}
 use Rattle.unlang_cond.proofs.steps.steps_of.Goals as goal

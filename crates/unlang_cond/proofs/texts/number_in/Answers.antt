@@ -1,8 +1,7 @@
-use Rattle.std.proofs.Common.{◌≡◌, ◌+◌, ◌*◌, ◌<◌, ◌≤◌, length, suc, true, false, [], ◌∷◌, sym, ap, ◌∙◌, arith, refl}
+use Rattle.std.proofs.Common.{◌≡◌, ◌<◌, length, suc, true, false, [], ap, ◌∙◌, arith}
 use Rattle.std.proofs.lemmas.List.{nil_from_length}
 use Rattle.std.specs.Char.{digit_value, is_digit}
 use borrow.Author.Tests.{ltb-true}
-use Rattle.rad_text.specs.Numerals.{digits_at}
 use Rattle.unlang_cond.proofs.Digits.{no_number, a_number, one_more_digit, goes_on}
 use Rattle.unlang_cond.proofs.texts.number_in.Goals as goal
 
