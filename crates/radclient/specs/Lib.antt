@@ -8,3 +8,4 @@ pub mod Groups
 pub mod Words
 pub mod Plans
 pub mod Program
+pub mod Exchanges

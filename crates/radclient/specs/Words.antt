@@ -1,5 +1,5 @@
 -- What the words of a command line ask for: radclient(1) of FreeRADIUS, in this project's profile.
-use Rattle.std.specs.Prelude.{ℕ, suc, ◌==◌, ◌&&◌, Bool, List, [], ◌∷◌, length, take, drop, nat_le, slice_get, Option, Some, None, codes, if◌then◌else◌}
+use Rattle.std.specs.Prelude.{ℕ, suc, ◌==◌, ◌&&◌, List, [], ◌∷◌, length, take, drop, nat_le, slice_get, Option, Some, None, codes, if◌then◌else◌}
 use Rattle.std.specs.Str.{bytes_eq}
 use Rattle.rad_outside.specs.declared.listen.Peer.{Peer}
 use Rattle.rad_text.specs.Addresses.{address_of}

@@ -1,12 +1,17 @@
 //! Laws of the client, in the words of whoever uses it. They are facts about the definitions, and the functions do nothing.
 
-ghost use Rattle.std.specs.Prelude.{◌≡◌, ◌↔◌, IsTrue, List, ℕ};
+ghost use Rattle.std.specs.Prelude.{◌≡◌, ◌≤◌, ◌↔◌, IsTrue, List, Option, ℕ};
 ghost use Rattle.std.specs.List.{AllByRecursion};
+ghost use Rattle.rad_outside.specs.Files.{FilesTold};
 ghost use Rattle.rad_wire.specs.Accepts.{Accepts};
 ghost use Rattle.radclient.specs.Answers.{Ending, Sending, ToCome, ended};
 ghost use Rattle.radclient.specs.Client.{tried};
+ghost use Rattle.radclient.specs.Exchanges.{AllGood, Exchange, IsWholeRun, OneBad};
 ghost use Rattle.radclient.specs.Judging.{is_accepted};
+ghost use Rattle.radclient.specs.Program.{Ends, number_of};
+ghost use Rattle.radclient.specs.Seen.{Seen};
 ghost use Rattle.radclient.specs.declared.asked.Asked.{Asked};
+ghost use Rattle.radclient.specs.declared.status.Status.{Status};
 
 /// The client takes a datagram for its reply exactly where the reply is accepted: it is well formed, answers the request's
 /// code and Identifier, and is signed with the secret (RFC 2865 section 3, RFC 2866 section 3, RFC 3579 section 3.2).
@@ -19,4 +24,15 @@ pub fn resends_have_the_same_octets()
     ensures { (asked : Asked) (request lines : List ℕ) (tries : ℕ) (ending : Ending) (come : ToCome)
         → AllByRecursion (λ (sending : Sending). sending ≡ record { to = asked.server; octets = request })
         (tried asked request lines tries (λ found. ended ending) come).sends }
+{}
+
+/// The status is 0 or 1 only where all packets were tried. What the devices told of the run is then one exchange for each
+/// packet: its octets, how often they were sent, and its reply, which is accepted for those octets and is printed, or none.
+/// The status is 0 exactly where each packet got an Access-Accept, an Accounting-Response or an Access-Challenge, and 1
+/// exactly where one got an Access-Reject or no reply (radclient(1)).
+pub fn status_says_what_packets_got()
+    ensures { (words : List (List ℕ)) (files_before files_now : Option FilesTold) (faults_before faults_now : ℕ) (before now : Seen) (status : Status)
+        → number_of status ≤ 1 → Ends words files_before files_now faults_before faults_now before now status
+        → (exchanges : List Exchange) × IsWholeRun words files_before files_now before now exchanges
+        × ((number_of status ≡ 0) ↔ AllGood exchanges) × ((number_of status ≡ 1) ↔ OneBad exchanges) }
 {}

@@ -21,5 +21,8 @@ mod stop;
 mod top;
 mod words;
 
-pub use laws::{replies_are_taken_as_they_are_accepted, resends_have_the_same_octets};
+pub use laws::{
+    replies_are_taken_as_they_are_accepted, resends_have_the_same_octets,
+    status_says_what_packets_got,
+};
 pub use top::radclient;
