@@ -12,3 +12,4 @@ pub mod Waited
 pub mod Tried
 pub mod Accounts
 pub mod Verdicts
+pub mod Ranges

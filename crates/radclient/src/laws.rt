@@ -1,6 +1,6 @@
 //! Laws of the client, in the words of whoever uses it. They are facts about the definitions, and the functions do nothing.
 
-ghost use Rattle.std.specs.Prelude.{◌≡◌, ◌≤◌, ◌↔◌, IsTrue, List, Option, ℕ};
+ghost use Rattle.std.specs.Prelude.{◌≡◌, ◌≤◌, ◌↔◌, IsTrue, List, Option, Some, ℕ};
 ghost use Rattle.std.specs.List.{AllByRecursion};
 ghost use Rattle.rad_outside.specs.Files.{FilesTold};
 ghost use Rattle.rad_wire.specs.Accepts.{Accepts};
@@ -10,6 +10,7 @@ ghost use Rattle.radclient.specs.Exchanges.{AllGood, Exchange, IsWholeRun, OneBa
 ghost use Rattle.radclient.specs.Judging.{is_accepted};
 ghost use Rattle.radclient.specs.Program.{Ends, number_of};
 ghost use Rattle.radclient.specs.Seen.{Seen};
+ghost use Rattle.radclient.specs.Words.{IsInRange, Line, line_of};
 ghost use Rattle.radclient.specs.declared.asked.Asked.{Asked};
 ghost use Rattle.radclient.specs.declared.status.Status.{Status};
 
@@ -35,4 +36,10 @@ pub fn status_says_what_packets_got()
         → number_of status ≤ 1 → Ends words files_before files_now faults_before faults_now before now status
         → (exchanges : List Exchange) × IsWholeRun words files_before files_now before now exchanges
         × ((number_of status ≡ 0) ↔ AllGood exchanges) × ((number_of status ≡ 1) ↔ OneBad exchanges) }
+{}
+
+/// Whatever the words are, what they ask for is in its range: a secret of 1 to 128 octets, 1 to 10,000 packets of each group,
+/// 1 to 100 sends of a packet, and 1 to 3,600 answers of the wire behind each. So each packet of a whole run was sent.
+pub fn words_ask_within_their_ranges()
+    ensures { (words : List (List ℕ)) (line : Line) → line_of words ≡ Some line → IsInRange line.asked }
 {}
