@@ -13,3 +13,4 @@ pub mod Tried
 pub mod Accounts
 pub mod Verdicts
 pub mod Ranges
+pub mod Parting

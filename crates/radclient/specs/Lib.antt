@@ -9,3 +9,4 @@ pub mod Words
 pub mod Plans
 pub mod Program
 pub mod Exchanges
+pub mod Parted

@@ -1,14 +1,18 @@
 //! Laws of the client, in the words of whoever uses it. They are facts about the definitions, and the functions do nothing.
 
-ghost use Rattle.std.specs.Prelude.{◌≡◌, ◌≤◌, ◌↔◌, IsTrue, List, Option, Some, ℕ};
+ghost use Rattle.std.specs.Prelude.{◌≡◌, ◌≤◌, ◌↔◌, IsTrue, List, Ok, Option, Some, map, ℕ};
 ghost use Rattle.std.specs.List.{AllByRecursion};
 ghost use Rattle.rad_outside.specs.Files.{FilesTold};
 ghost use Rattle.rad_wire.specs.Accepts.{Accepts};
 ghost use Rattle.radclient.specs.Answers.{Ending, Sending, ToCome, ended};
 ghost use Rattle.radclient.specs.Client.{tried};
 ghost use Rattle.radclient.specs.Exchanges.{AllGood, Exchange, IsWholeRun, OneBad};
+ghost use Rattle.rad_text.specs.Lines.{lines_of};
+ghost use Rattle.rad_value.specs.PairLists.{PairLists};
+ghost use Rattle.radclient.specs.Groups.{groups_of};
 ghost use Rattle.radclient.specs.Judging.{is_accepted};
-ghost use Rattle.radclient.specs.Program.{Ends, number_of};
+ghost use Rattle.radclient.specs.Parted.{pairs_of_lines, parted};
+ghost use Rattle.radclient.specs.Program.{Ends, number_of, pairs_of_groups};
 ghost use Rattle.radclient.specs.Seen.{Seen};
 ghost use Rattle.radclient.specs.Words.{IsInRange, Line, line_of};
 ghost use Rattle.radclient.specs.declared.asked.Asked.{Asked};
@@ -42,4 +46,11 @@ pub fn status_says_what_packets_got()
 /// 1 to 100 sends of a packet, and 1 to 3,600 answers of the wire behind each. So each packet of a whole run was sent.
 pub fn words_ask_within_their_ranges()
     ensures { (words : List (List ℕ)) (line : Line) → line_of words ≡ Some line → IsInRange line.asked }
+{}
+
+/// The groups of a file that is taken are its lines, parted where a line has nothing but blanks; parts without a line are
+/// left out, and the pairs of a group are those of its lines, in order (radclient(1)).
+pub fn groups_are_parted_by_empty_lines()
+    ensures { (text : List ℕ) (groups : List PairLists) → groups_of text ≡ Ok groups
+        → pairs_of_groups groups ≡ map pairs_of_lines (parted (lines_of text)) }
 {}
