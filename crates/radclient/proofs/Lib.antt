@@ -14,3 +14,4 @@ pub mod Accounts
 pub mod Verdicts
 pub mod Ranges
 pub mod Parting
+pub mod FirstWrong

@@ -25,7 +25,7 @@ kept_again zero xs ys = refl
 kept_again (suc n) [] ys = refl
 kept_again {A = A} (suc n) (x ∷ xs) ys = ap (λ (l : List A). x ∷ l) (kept_again n xs ys)
 
-abbrev most : ℕ
+abbrev pub most : ℕ
 most = 2147483648
 
 added_is : (pairs : PairLists) (item : Item) (b : Bool) → nat_lt (length pairs.request) most ≡ b → length pairs.request ≤ most
@@ -55,16 +55,16 @@ items_are (item ∷ items) pairs few =
     ∙ ap (take most) (append_assoc pairs.request (pair_of item ∷ []) (map pair_of items))
 
 -- the groups of the parts behind what an open group has
-abbrev begun : List Pair → List (List (List ℕ)) → List (List Pair)
+abbrev pub begun : List Pair → List (List (List ℕ)) → List (List Pair)
 begun have [] = []
 begun have (part ∷ parts) = take most (have ++ flat_map pairs_of_line part) ∷ map pairs_of_lines (filled parts)
 
-abbrev after : Bool → List Pair → List (List (List ℕ)) → List (List Pair)
+abbrev pub after : Bool → List Pair → List (List (List ℕ)) → List (List Pair)
 after true have parts = begun have parts
 after false have parts = map pairs_of_lines (filled parts)
 
 -- a reading's open group isn't longer than is kept, and nothing is kept where none is open
-record IsReading (opened : Bool) (have : List Pair) : Type 0 where
+pub record IsReading (opened : Bool) (have : List Pair) : Type 0 where
   pub few : length have ≤ most
   pub none : opened ≡ false → have ≡ []
 
@@ -97,14 +97,14 @@ abbrev groups_or : Result (List PairLists) LineFault → List PairLists
 groups_or (Ok groups) = groups
 groups_or (Err fault) = []
 
-abbrev parts_of : List (List ℕ) → List (List (List ℕ))
+abbrev pub parts_of : List (List ℕ) → List (List (List ℕ))
 parts_of lines = slice_split is_empty lines
 
-abbrev at : List PairLists → Bool → PairLists → ℕ → Reading
+abbrev pub at : List PairLists → Bool → PairLists → ℕ → Reading
 at groups opened pairs line = record { groups = groups; is_open = opened; pairs = pairs; line = line }
 
 -- what the groups of a reading are at the end, by the lines behind it
-abbrev Later : List (List ℕ) → Reading → Type 0
+abbrev pub Later : List (List ℕ) → Reading → Type 0
 Later more now = (opened : Bool) (groups : List PairLists) (pairs : PairLists) (line : ℕ) → IsReading opened pairs.request → lines_read (at groups opened pairs line) more ≡ Ok now
     → pairs_of_groups (closed now).groups ≡ pairs_of_groups groups ++ after opened pairs.request (parts_of more)
 
@@ -166,7 +166,7 @@ after_any false opened groups pairs line text more now is empty reads later =
     after_line (is_one_too_many (at groups opened pairs line)) opened groups pairs line text more now is reads later
     ∙ ap (λ (parts : List (List (List ℕ))). pairs_of_groups groups ++ after opened pairs.request parts) (sym (slice_split-cons_no is_empty text more empty))
 
-lines_are : (lines : List (List ℕ)) (now : Reading) → Later lines now
+pub lines_are : (lines : List (List ℕ)) (now : Reading) → Later lines now
 unfolding lines_read line_read
 lines_are [] now = λ opened groups pairs line is reads.
     let same : at groups opened pairs line ≡ now = ap (reading_or now) reads in

@@ -1,6 +1,6 @@
 //! Laws of the client, in the words of whoever uses it. They are facts about the definitions, and the functions do nothing.
 
-ghost use Rattle.std.specs.Prelude.{◌≡◌, ◌≤◌, ◌↔◌, IsTrue, List, Ok, Option, Some, map, ℕ};
+ghost use Rattle.std.specs.Prelude.{◌≡◌, ◌≤◌, ◌↔◌, Err, IsTrue, List, Ok, Option, Some, map, ℕ};
 ghost use Rattle.std.specs.List.{AllByRecursion};
 ghost use Rattle.rad_outside.specs.Files.{FilesTold};
 ghost use Rattle.rad_wire.specs.Accepts.{Accepts};
@@ -11,11 +11,12 @@ ghost use Rattle.rad_text.specs.Lines.{lines_of};
 ghost use Rattle.rad_value.specs.PairLists.{PairLists};
 ghost use Rattle.radclient.specs.Groups.{groups_of};
 ghost use Rattle.radclient.specs.Judging.{is_accepted};
-ghost use Rattle.radclient.specs.Parted.{pairs_of_lines, parted};
+ghost use Rattle.radclient.specs.Parted.{IsFirstWrong, pairs_of_lines, parted};
 ghost use Rattle.radclient.specs.Program.{Ends, number_of, pairs_of_groups};
 ghost use Rattle.radclient.specs.Seen.{Seen};
 ghost use Rattle.radclient.specs.Words.{IsInRange, Line, line_of};
 ghost use Rattle.radclient.specs.declared.asked.Asked.{Asked};
+ghost use Rattle.radclient.specs.declared.fault.LineFault.{LineFault};
 ghost use Rattle.radclient.specs.declared.status.Status.{Status};
 
 /// The client takes a datagram for its reply exactly where the reply is accepted: it is well formed, answers the request's
@@ -53,4 +54,10 @@ pub fn words_ask_within_their_ranges()
 pub fn groups_are_parted_by_empty_lines()
     ensures { (text : List ℕ) (groups : List PairLists) → groups_of text ≡ Ok groups
         → pairs_of_groups groups ≡ map pairs_of_lines (parted (lines_of text)) }
+{}
+
+/// The fault of a file that isn't taken is its first line that is wrong, by its number: a line that can't be read, or that
+/// begins the 4,097th group. Each line before it is empty or can be read (radclient(1)).
+pub fn the_fault_is_the_first_wrong_line()
+    ensures { (text : List ℕ) (fault : LineFault) → groups_of text ≡ Err fault → IsFirstWrong (lines_of text) fault }
 {}
