@@ -15,3 +15,4 @@ pub mod Verdicts
 pub mod Ranges
 pub mod Parting
 pub mod FirstWrong
+pub mod Righted

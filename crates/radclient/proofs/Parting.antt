@@ -89,11 +89,11 @@ some_parts lines = λ none.
     let l = length-slice_split is_empty lines in
     let z : length (slice_split is_empty lines) ≡ 0 = ap (λ (parts : List (List (List ℕ))). length parts) none in omega (arith, l, z)
 
-abbrev reading_or : Reading → Result Reading LineFault → Reading
+abbrev pub reading_or : Reading → Result Reading LineFault → Reading
 reading_or other (Ok reading) = reading
 reading_or other (Err fault) = other
 
-abbrev groups_or : Result (List PairLists) LineFault → List PairLists
+abbrev pub groups_or : Result (List PairLists) LineFault → List PairLists
 groups_or (Ok groups) = groups
 groups_or (Err fault) = []
 

@@ -1,6 +1,6 @@
 //! Laws of the client, in the words of whoever uses it. They are facts about the definitions, and the functions do nothing.
 
-ghost use Rattle.std.specs.Prelude.{◌≡◌, ◌≤◌, ◌↔◌, Err, IsTrue, List, Ok, Option, Some, map, ℕ};
+ghost use Rattle.std.specs.Prelude.{◌≡◌, ◌≤◌, ◌↔◌, Err, IsTrue, List, Ok, Option, Some, length, map, ℕ};
 ghost use Rattle.std.specs.List.{AllByRecursion};
 ghost use Rattle.rad_outside.specs.Files.{FilesTold};
 ghost use Rattle.rad_wire.specs.Accepts.{Accepts};
@@ -11,7 +11,7 @@ ghost use Rattle.rad_text.specs.Lines.{lines_of};
 ghost use Rattle.rad_value.specs.PairLists.{PairLists};
 ghost use Rattle.radclient.specs.Groups.{groups_of};
 ghost use Rattle.radclient.specs.Judging.{is_accepted};
-ghost use Rattle.radclient.specs.Parted.{IsFirstWrong, pairs_of_lines, parted};
+ghost use Rattle.radclient.specs.Parted.{IsFirstWrong, IsRight, pairs_of_lines, parted};
 ghost use Rattle.radclient.specs.Program.{Ends, number_of, pairs_of_groups};
 ghost use Rattle.radclient.specs.Seen.{Seen};
 ghost use Rattle.radclient.specs.Words.{IsInRange, Line, line_of};
@@ -50,10 +50,13 @@ pub fn words_ask_within_their_ranges()
 {}
 
 /// The groups of a file that is taken are its lines, parted where a line has nothing but blanks; parts without a line are
-/// left out, and the pairs of a group are those of its lines, in order (radclient(1)).
+/// left out, and the pairs of a group are those of its lines, in order. Each line is empty or can be read, and there are 4,096
+/// groups at most (radclient(1)).
 pub fn groups_are_parted_by_empty_lines()
-    ensures { (text : List ℕ) (groups : List PairLists) → groups_of text ≡ Ok groups
+    ensures groups { (text : List ℕ) (groups : List PairLists) → groups_of text ≡ Ok groups
         → pairs_of_groups groups ≡ map pairs_of_lines (parted (lines_of text)) }
+    ensures right { (text : List ℕ) (groups : List PairLists) → groups_of text ≡ Ok groups
+        → AllByRecursion IsRight (lines_of text) × (length groups ≤ 4096) }
 {}
 
 /// The fault of a file that isn't taken is its first line that is wrong, by its number: a line that can't be read, or that
