@@ -1,11 +1,11 @@
 -- The test for replies that are accepted.
-use Rattle.std.proofs.Common.{◌≡◌, ℕ, ◌≤◌, Bool, true, false, not, Result, Ok, Err, is_ok, OnOk, IfErr, ◌&&◌, ◌||◌, ◌≢◌, List, [], ◌∷◌, length, take, drop, refl, sym, ap, ◌∙◌, subst, inl, inr, arith}
-use Rattle.std.specs.Prelude.{◌==◌, ◌⊎◌, IsTrue, nat_le}
+use Rattle.std.proofs.Common.{◌≡◌, ℕ, ◌≤◌, Bool, true, false, not, Result, Ok, Err, is_ok, OnOk, IfErr, ◌&&◌, ◌||◌, List, [], ◌∷◌, length, drop, refl, sym, ap, ◌∙◌, inl, inr}
+use Rattle.std.specs.Prelude.{◌==◌, nat_le}
 use Rattle.std.specs.List.{flat_map, list_all, AllByRecursion}
 use Rattle.std.specs.Str.{bytes_eq}
-use Rattle.std.proofs.lemmas.Bool.{and_from, and_parts, eqb-true, eq-eqb, leb-true, le-leb, false_from_ne_true, cases_Bool}
+use Rattle.std.proofs.lemmas.Bool.{and_from, and_parts, eqb-true, eq-eqb, leb-true, le-leb, false_from_ne_true}
 use Rattle.std.proofs.lemmas.Slice.Eq.{bytes_eq-Decides}
-use Rattle.rad_packet.specs.Packet.{Attribute, AreAttributes, IsPacket, IsWellFormed, attributes_of, authenticator_of, code_of, id_of, length_of, packet_of, spelled}
+use Rattle.rad_packet.specs.Packet.{Attribute, IsWellFormed, attributes_of, authenticator_of, code_of, id_of, length_of, packet_of, spelled}
 use Rattle.rad_packet.specs.Signatures.{IsIntact, digest_with, message_authenticator, message_authenticators}
 use Rattle.rad_packet.proofs.Intact.{own_attributes, right_intact}
 use Rattle.rad_wire.specs.declared.reply_fault.ReplyFault.{ReplyFault}

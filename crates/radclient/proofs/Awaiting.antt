@@ -9,8 +9,8 @@ use Rattle.radclient.specs.declared.asked.Asked.{Asked}
 use Rattle.radclient.specs.Answers.{Act, ToCome, SocketFault, ended}
 use Rattle.radclient.specs.Client.{awaited}
 use Rattle.radclient.specs.Judging.{Judged, Reply, Other, Broken, judged, is_accepted, is_peer}
-use Rattle.radclient.specs.Seen.{Seen, Gained, Gains, Goes}
-use Rattle.radclient.proofs.Reaching.{Tells-weaker, Tells-same, Gains-nothing}
+use Rattle.radclient.specs.Seen.{Seen, Gains, Goes}
+use Rattle.radclient.proofs.Reaching.{Tells-weaker, Gains-nothing}
 
 -- the wire was asked once
 abbrev pub after_ask : Seen → Option WireTold → ℕ → Seen

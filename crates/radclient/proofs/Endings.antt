@@ -1,5 +1,5 @@
 -- How runs end.
-use Rattle.std.proofs.Common.{◌≡◌, ℕ, ◌<◌, List, [], Result, Ok, Err, refl, sym, subst}
+use Rattle.std.proofs.Common.{◌≡◌, ℕ, List, [], Err, sym, subst}
 use Rattle.radclient.specs.declared.asked.Asked.{Asked}
 use Rattle.radclient.specs.declared.fault.LineFault.{LineFault}
 use Rattle.radclient.specs.declared.status.Status.{Status}

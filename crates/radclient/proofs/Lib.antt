@@ -8,3 +8,11 @@ pub mod Packets
 pub mod Readings
 pub mod Endings
 pub mod Resends
+pub mod Waited
+pub mod Tried
+pub mod Accounts
+pub mod Verdicts
+pub mod Ranges
+pub mod Parting
+pub mod FirstWrong
+pub mod Righted

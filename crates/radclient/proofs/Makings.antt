@@ -1,6 +1,5 @@
 -- Packets that are made, and those that can't be.
-use Rattle.std.proofs.Common.{◌≡◌, ℕ, ◌<◌, ◌≤◌, Bool, true, false, cond, List, [], ◌∷◌, ◌++◌, Option, Result, Ok, Err, MatchResult, length, refl, sym, ap, subst, ◌∙◌, append-nil, arith}
-use Rattle.std.specs.Prelude.{nat_lt, nat_le}
+use Rattle.std.proofs.Common.{◌≡◌, ℕ, ◌<◌, ◌≤◌, Bool, cond, List, [], ◌∷◌, ◌++◌, Option, Result, Ok, Err, MatchResult, length, refl, sym, ap, subst, ◌∙◌}
 use Rattle.std.proofs.lemmas.Bool.{lt-ltb, le-ltb, le-leb, lt-leb}
 use Rattle.rad_outside.specs.Telling.{Tells}
 use Rattle.rad_value.specs.declared.values.Pair.{Pair}
@@ -11,11 +10,11 @@ use Rattle.radclient.specs.declared.asked.Asked.{Asked}
 use Rattle.radclient.specs.declared.stop.Stop.{Stop}
 use Rattle.radclient.specs.declared.stop.Stop.TheVariants as stop
 use Rattle.radclient.specs.declared.stop.Unmade.{Unmade}
-use Rattle.radclient.specs.declared.stop.Unmade.TheVariants.{PasswordTooLong, TooLong}
-use Rattle.radclient.specs.Answers.{Act, ToCome, NotMade, drawing, ended}
+use Rattle.radclient.specs.declared.stop.Unmade.TheVariants.{TooLong}
+use Rattle.radclient.specs.Answers.{Act, NotMade, drawing, ended}
 use Rattle.radclient.specs.Client.{packet, served}
-use Rattle.radclient.specs.Making.{IsUnmade, authenticator_of_words, code_for, fitting, is_too_long, made, stop_of, without_long}
-use Rattle.radclient.specs.Seen.{Seen, Gains, Goes, Stops}
+use Rattle.radclient.specs.Making.{IsUnmade, authenticator_of_words, code_for, made, stop_of, without_long}
+use Rattle.radclient.specs.Seen.{Seen, Goes, Stops}
 use Rattle.radclient.proofs.Reaching.{Gains-nothing, Goes-same, Goes-trans}
 
 module _ (asked : Asked) (id high low : ℕ) (pairs : List Pair) (code : ℕ) (authenticator secret : List ℕ) (coded : code ≡ code_for asked.kind) (drawn : authenticator ≡ authenticator_of_words high low) (shared : secret ≡ asked.secret) where
@@ -57,7 +56,7 @@ made_act asked id pairs next made = elim made [
   | Err wrong ↦ ended (NotMade wrong)
 ]
 
-abbrev draws : Asked → ℕ → List Pair → (Bool → Act) → Act
+abbrev pub draws : Asked → ℕ → List Pair → (Bool → Act) → Act
 draws asked id pairs next = drawing (λ high. drawing (λ low. made_act asked id pairs next (made asked id high low pairs)))
 
 module _ (asked : Asked) (id : ℕ) (pairs : List Pair) (next : Bool → Act) where

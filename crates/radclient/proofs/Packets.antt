@@ -1,6 +1,5 @@
 -- Packets, one after another.
 use Rattle.std.proofs.Common.{◌≡◌, ℕ, zero, suc, ◌+◌, ◌-◌, ◌%◌, ◌<◌, Bool, List, [], ◌∷◌, ◌++◌, length, map, drop, replicate, get_or, refl, sym, ap, subst, ◌∙◌, drop-cons, add-one, arith}
-use Rattle.std.specs.List.{flat_map}
 use Rattle.rad_value.specs.declared.values.Pair.{Pair}
 use Rattle.rad_value.specs.PairLists.{PairLists}
 use Rattle.radclient.specs.declared.asked.Asked.{Asked}

@@ -1,18 +1,16 @@
 -- Lines that are printed, and their end where the sink fails.
-use Rattle.std.proofs.Common.{◌≡◌, ℕ, ◌+◌, ◌≤◌, Bool, true, false, cond, List, [], ◌∷◌, ◌++◌, take, drop, Option, Some, None, Result, Ok, Err, MatchResult, IsErr, inl, inr, refl, sym, ap, subst, ◌∙◌, append_assoc, append-nil, length, arith}
+use Rattle.std.proofs.Common.{◌≡◌, ℕ, ◌+◌, ◌≤◌, Bool, true, false, cond, List, [], ◌++◌, take, drop, Option, Some, None, Result, Ok, Err, MatchResult, IsErr, inl, inr, refl, sym, ap, subst, ◌∙◌, append_assoc, append-nil, length, arith}
 use Rattle.std.specs.Prelude.{◌==◌, slice_get}
-use Rattle.std.specs.List.{flat_map}
 use Rattle.std.proofs.lemmas.List.{take-append-drop, take_all}
-use Rattle.std.proofs.Math.Seq.{drop-length}
 use Rattle.std.proofs.lemmas.List.{drop_all}
 use Rattle.rad_value.specs.declared.values.Pair.{Pair}
 use Rattle.rad_outside.specs.declared.fault.Failed.{Failed}
 use Rattle.rad_outside.specs.Sink.{Writes}
 use Rattle.rad_outside.specs.Telling.{Tells, Counts}
 use Rattle.rad_wire.proofs.Fitting.{drop_at_get}
-use Rattle.radclient.specs.Answers.{Act, ToCome, saying, with_front}
+use Rattle.radclient.specs.Answers.{Act, saying, with_front}
 use Rattle.radclient.specs.Lines.{pair_line, pair_lines, unless_quiet}
-use Rattle.radclient.specs.Seen.{Seen, Gains, Goes, Reaches, IsCutOff, Stops}
+use Rattle.radclient.specs.Seen.{Seen, Gains, Goes, IsCutOff, Stops}
 use Rattle.radclient.specs.declared.asked.Asked.{Asked}
 use Rattle.radclient.specs.declared.stop.Stop.{Stop}
 use Rattle.radclient.specs.Client.{lines_at}

@@ -1,10 +1,9 @@
 -- How far a run came, one step after another.
-use Rattle.std.proofs.Common.{◌≡◌, ℕ, ◌≤◌, Bool, true, false, List, [], ◌∷◌, ◌++◌, map, Option, Some, None, Result, Ok, Err, MatchResult, refl, sym, ap, ◌∙◌, append_assoc, append-nil, arith}
+use Rattle.std.proofs.Common.{◌≡◌, ℕ, ◌≤◌, Bool, List, [], ◌++◌, map, Option, Some, None, Result, Ok, Err, MatchResult, refl, sym, ap, ◌∙◌, append_assoc, append-nil, arith}
 use Rattle.std.proofs.lemmas.List.{map-append}
 use Rattle.rad_outside.specs.declared.wire.Heard.{Heard}
 use Rattle.rad_outside.specs.declared.wire.Sent.{Sent}
 use Rattle.rad_outside.specs.Telling.{Tells, Rose}
-use Rattle.rad_outside.specs.Wire.{WireTold}
 use Rattle.radclient.specs.declared.stop.Stop.{Stop}
 use Rattle.radclient.specs.declared.stop.Stop.TheVariants as stop
 use Rattle.radclient.specs.Answers.{Act, Run, ToCome, Sending, NotMade, SocketFault, ended, with_front}

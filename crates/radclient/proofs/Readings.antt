@@ -1,5 +1,5 @@
 -- Items and lines, one after another.
-use Rattle.std.proofs.Common.{◌≡◌, ℕ, zero, suc, ◌+◌, ◌<◌, ◌≤◌, List, [], ◌∷◌, length, drop, get_or, Result, Ok, Err, refl, sym, ap, ◌∙◌, drop-cons, add-one, arith}
+use Rattle.std.proofs.Common.{◌≡◌, ℕ, zero, suc, ◌+◌, ◌≤◌, List, [], ◌∷◌, length, drop, Result, Ok, Err, refl, sym, ap, ◌∙◌, drop-cons, add-one, arith}
 use Rattle.std.specs.Prelude.{slice_get, Some, None}
 use Rattle.std.proofs.lemmas.List.{drop_all}
 use Rattle.std.proofs.lemmas.Option.{none-some, slice_get_within, get_or_from_slice_get}
@@ -9,7 +9,6 @@ use Rattle.rad_text.specs.Read.{◌>>=◌, Fails}
 use Rattle.rad_value.specs.PairLists.{PairLists}
 use Rattle.rad_pairs.specs.declared.items.Item.{Item}
 use Rattle.radclient.specs.declared.fault.LineFault.{LineFault}
-use Rattle.radclient.specs.declared.fault.Reason.{Reason}
 use Rattle.radclient.specs.Groups.{Reading, closed, groups_of, line_read, lines_read, unread, added, with_items}
 use Rattle.rad_text.specs.Lines.{lines_of}
 

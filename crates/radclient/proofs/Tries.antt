@@ -1,12 +1,12 @@
 -- Datagrams that are handed to the wire, and requests that are sent again.
-use Rattle.std.proofs.Common.{◌≡◌, ℕ, zero, suc, ◌-◌, ◌<◌, ◌≤◌, Bool, true, false, List, [], ◌∷◌, ◌++◌, Option, Some, None, refl, sym, ap, ◌∙◌, subst, append-nil, arith}
+use Rattle.std.proofs.Common.{◌≡◌, ℕ, zero, suc, ◌-◌, ◌<◌, ◌≤◌, Bool, true, false, List, [], ◌∷◌, ◌++◌, Option, Some, None, refl, sym, ap, ◌∙◌, append-nil, arith}
 use Rattle.rad_outside.specs.declared.listen.Peer.{Peer}
 use Rattle.rad_outside.specs.Telling.{Tells}
 use Rattle.rad_outside.specs.Wire.{WireTold}
 use Rattle.radclient.specs.declared.asked.Asked.{Asked}
-use Rattle.radclient.specs.Answers.{Act, ToCome, SocketFault, ended, sending}
+use Rattle.radclient.specs.Answers.{Act, SocketFault, ended, sending}
 use Rattle.radclient.specs.Client.{awaited, sent_once, tried}
-use Rattle.radclient.specs.Seen.{Seen, Gained, Gains, Goes}
+use Rattle.radclient.specs.Seen.{Seen, Gains, Goes}
 use Rattle.radclient.proofs.Awaiting.{after_ask}
 use Rattle.radclient.proofs.Reaching.{Tells-weaker, Gains-nothing, Goes-same}
 

@@ -1,5 +1,5 @@
 -- What the client does: radclient(1) of FreeRADIUS, in this project's profile.
-use Rattle.std.specs.Prelude.{ℕ, zero, suc, ◌+◌, ◌-◌, ◌^◌, ◌%◌, min, ◌==◌, ◌||◌, Bool, true, false, List, [], ◌∷◌, ◌++◌, Option, Some, None, Result, Ok, Err, replicate, if◌then◌else◌}
+use Rattle.std.specs.Prelude.{ℕ, zero, suc, ◌+◌, ◌-◌, ◌^◌, ◌%◌, min, ◌==◌, ◌||◌, Bool, true, false, List, [], ◌∷◌, Option, Some, None, Ok, Err, replicate, if◌then◌else◌}
 use Rattle.std.specs.List.{flat_map}
 use Rattle.rad_value.specs.declared.values.Pair.{Pair}
 use Rattle.rad_packet.specs.Packet.{code_of}

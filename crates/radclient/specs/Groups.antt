@@ -6,7 +6,6 @@ use Rattle.rad_text.specs.declared.read.ReadError.{ReadError}
 use Rattle.rad_text.specs.declared.read.ReadError.TheVariants.{NoMemory, Wrong}
 use Rattle.rad_text.specs.Read.{◌>>=◌}
 use Rattle.rad_value.specs.declared.edits.ListName.TheVariants.{Request}
-use Rattle.rad_value.specs.declared.values.Pair.{Pair}
 use Rattle.rad_value.specs.PairLists.{PairLists, no_pairs, with_list}
 use Rattle.rad_dict.specs.Base.{base_definitions}
 use Rattle.rad_pairs.specs.declared.fault.PairFault.{PairFault}

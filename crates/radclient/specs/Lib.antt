@@ -8,3 +8,5 @@ pub mod Groups
 pub mod Words
 pub mod Plans
 pub mod Program
+pub mod Exchanges
+pub mod Parted

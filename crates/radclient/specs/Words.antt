@@ -1,5 +1,5 @@
 -- What the words of a command line ask for: radclient(1) of FreeRADIUS, in this project's profile.
-use Rattle.std.specs.Prelude.{ℕ, suc, ◌==◌, ◌&&◌, Bool, List, [], ◌∷◌, length, take, drop, nat_le, slice_get, Option, Some, None, codes, if◌then◌else◌}
+use Rattle.std.specs.Prelude.{ℕ, suc, ◌==◌, ◌≤◌, ◌&&◌, List, [], ◌∷◌, length, take, drop, nat_le, slice_get, Option, Some, None, codes, if◌then◌else◌}
 use Rattle.std.specs.Str.{bytes_eq}
 use Rattle.rad_outside.specs.declared.listen.Peer.{Peer}
 use Rattle.rad_text.specs.Addresses.{address_of}
@@ -101,3 +101,11 @@ line_of_items items = do
 -- What a command line asks for, or nothing where its words are others.
 abbrev pub line_of : List (List ℕ) → Option Line
 line_of words = arguments (codes "xq") (codes "fcrt") words >>= line_of_items
+
+-- What is asked for is in its range: a secret of 1 to 128 octets, 1 to 10,000 packets of each group, 1 to 100 sends of a packet
+-- and 1 to 3,600 answers of the wire behind each.
+pub record IsInRange (asked : Asked) : Type 0 where
+  pub secret : (1 ≤ length asked.secret) × (length asked.secret ≤ 128)
+  pub count : (1 ≤ asked.count) × (asked.count ≤ 10000)
+  pub tries : (1 ≤ asked.tries) × (asked.tries ≤ 100)
+  pub waits : (1 ≤ asked.waits) × (asked.waits ≤ 3600)

@@ -21,5 +21,9 @@ mod stop;
 mod top;
 mod words;
 
-pub use laws::{replies_are_taken_as_they_are_accepted, resends_have_the_same_octets};
+pub use laws::{
+    groups_are_parted_by_empty_lines, replies_are_taken_as_they_are_accepted,
+    resends_have_the_same_octets, status_says_what_packets_got, the_fault_is_the_first_wrong_line,
+    words_ask_within_their_ranges,
+};
 pub use top::radclient;

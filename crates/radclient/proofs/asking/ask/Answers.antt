@@ -1,7 +1,6 @@
-use Rattle.std.proofs.Common.{◌≡◌, ℕ, ◌<◌, ◌≤◌, ◌-◌, take, List, Option, None, Some, refl, sym, ap, ◌∙◌, subst, arith, ◌&&◌, Bool, true, false}
+use Rattle.std.proofs.Common.{◌≡◌, ℕ, ◌-◌, take, List, None, Some, refl, sym, ◌∙◌, subst, ◌&&◌, true, false}
 use Rattle.std.proofs.lemmas.Bool.{and_parts}
 use Rattle.rad_outside.specs.declared.wire.Heard.TheVariants as heard
-use Rattle.radclient.specs.Answers.{SocketFault, ended}
 use Rattle.radclient.specs.Client.{awaited}
 use Rattle.radclient.specs.Judging.{is_accepted, is_peer}
 use Rattle.radclient.specs.Seen.{Seen}

@@ -1,4 +1,4 @@
-use Rattle.std.proofs.Common.{◌≡◌, ◌&&◌, Bool, true, List, ℕ, sym, ap, ◌∙◌, subst}
+use Rattle.std.proofs.Common.{◌≡◌, ◌&&◌, Bool, true, sym, ap, ◌∙◌}
 use Rattle.radclient.specs.Judging.{is_accepted, is_peer}
 use Rattle.radclient.proofs.Accepting.{answers_test}
 use Rattle.radclient.proofs.asking.is_reply.Goals as goal

@@ -2,7 +2,7 @@ use Rattle.std.proofs.Common.{◌≤◌, ◌<◌, length, arith}
 use Rattle.radclient.specs.Client.{packet}
 use Rattle.radclient.specs.Making.{made}
 use Rattle.radclient.specs.Seen.{Seen}
-use Rattle.radclient.proofs.Makings.{after_word, draws_twice, making_result, too_long}
+use Rattle.radclient.proofs.Makings.{draws_twice, making_result, too_long}
 use Rattle.radclient.proofs.making.make.Goals as goal
 
 pub returns-then-len-ge-MOST-clause-goes : goal.returns-then-len-ge-MOST-clause-goes

@@ -1,4 +1,4 @@
-use Rattle.std.proofs.Common.{◌≡◌, ap, ◌∙◌, refl}
+use Rattle.std.proofs.Common.{◌∙◌}
 use Rattle.std.specs.Option.{option_copied}
 use Rattle.radclient.specs.Answers.{saying}
 use Rattle.radclient.specs.Lines.{closing_lines, unless_quiet}

@@ -1,10 +1,8 @@
-use Rattle.std.proofs.Common.{◌≡◌, ap, refl, false}
-use Rattle.std.specs.Prelude.{◌==◌}
 use Rattle.radclient.specs.Answers.{saying}
 use Rattle.radclient.specs.Client.{lines_at}
 use Rattle.radclient.specs.Lines.{sent_lines, unless_quiet}
 use Rattle.radclient.specs.Seen.{Seen}
-use Rattle.std.proofs.lemmas.Bool.{ne_eqb, eq-eqb}
+use Rattle.std.proofs.lemmas.Bool.{ne_eqb}
 use Rattle.radclient.proofs.Printed.{said_quietly, said_once}
 use Rattle.radclient.proofs.Reaching.{CutOff-here}
 use Rattle.radclient.proofs.printing.say_sent.Goals as goal

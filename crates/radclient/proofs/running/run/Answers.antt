@@ -1,4 +1,4 @@
-use Rattle.std.proofs.Common.{◌++◌, ◌+◌, List, ℕ, drop, replicate, refl, subst, sym, arith}
+use Rattle.std.proofs.Common.{◌+◌, List, drop, subst, sym, arith}
 use Rattle.std.proofs.lemmas.List.{drop_all}
 use Rattle.rad_value.specs.declared.values.Pair.{Pair}
 use Rattle.radclient.specs.Answers.{Finished, ended}

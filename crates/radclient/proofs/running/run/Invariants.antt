@@ -1,4 +1,4 @@
-use Rattle.std.proofs.Common.{List, map, drop}
+use Rattle.std.proofs.Common.{map, drop}
 use Rattle.rad_value.specs.PairLists.{PairLists}
 use Rattle.radclient.specs.Client.{client_run, packets, repeated}
 use Rattle.radclient.specs.Seen.{Seen, Goes}

@@ -1,4 +1,4 @@
-use Rattle.std.proofs.Common.{◌++◌, ◌-◌, List, ℕ, replicate, refl, subst}
+use Rattle.std.proofs.Common.{◌++◌, ◌-◌, List, replicate, refl, subst}
 use Rattle.rad_value.specs.declared.values.Pair.{Pair}
 use Rattle.radclient.specs.Client.{packets}
 use Rattle.radclient.specs.Seen.{Seen, Goes, Stops}

@@ -1,4 +1,4 @@
-use Rattle.std.proofs.Common.{◌≡◌, ◌-◌, ℕ, List, Option, Some, None, refl, take}
+use Rattle.std.proofs.Common.{◌-◌, Some, None, refl, take}
 use Rattle.radclient.specs.Client.{tried}
 use Rattle.radclient.specs.Lines.{sent_lines}
 use Rattle.radclient.specs.Seen.{Seen}

@@ -1,4 +1,4 @@
-use Rattle.std.proofs.Common.{ℕ, Bool, List, Option, subst, sym}
+use Rattle.std.proofs.Common.{ℕ, List, subst, sym}
 use Rattle.radclient.specs.Client.{packet, served}
 use Rattle.radclient.specs.Seen.{Seen, Goes}
 use Rattle.radclient.proofs.Reaching.{chained}

@@ -1,5 +1,5 @@
-use Rattle.std.proofs.Common.{ℕ, Bool, List, Option, take, subst, sym}
-use Rattle.std.specs.Option.{option_copied, option_map}
+use Rattle.std.proofs.Common.{ℕ, List, Option, subst, sym}
+use Rattle.std.specs.Option.{option_copied}
 use Rattle.radclient.specs.Client.{closed, served}
 use Rattle.radclient.specs.Seen.{Seen, Goes}
 use Rattle.radclient.proofs.Reaching.{chained}

@@ -1,4 +1,4 @@
-use Rattle.std.proofs.Common.{◌≡◌, List, ℕ, Some, None, inl, inr, refl, sym, ap, ◌∙◌, subst}
+use Rattle.std.proofs.Common.{◌≡◌, ℕ, Some, None, inl, inr, refl, ◌∙◌, subst}
 use Rattle.rad_outside.specs.Files.{FilesTold, begun, octets_at}
 use Rattle.rad_outside.specs.Telling.{Rose}
 use Rattle.radclient.proofs.Reaching.{Tells-trans}

@@ -1,8 +1,8 @@
-use Rattle.std.proofs.Common.{◌≡◌, List, ℕ, Some, map, subst, sym, ap, ◌∙◌, refl}
+use Rattle.std.proofs.Common.{◌≡◌, List, ℕ, Some, map, sym, ap, ◌∙◌, refl}
 use Rattle.std.specs.Prelude.{string_bytes}
 use Rattle.radclient.specs.Program.{Misworded, Starving}
 use Rattle.radclient.specs.Seen.{Seen}
-use Rattle.radclient.specs.Words.{Line, line_of}
+use Rattle.radclient.specs.Words.{line_of}
 use Rattle.radclient.proofs.top.run_words.Goals as goal
 
 pub returns-in-Ok-Some : goal.returns-in-Ok-Some
