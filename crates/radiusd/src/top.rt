@@ -65,6 +65,15 @@ fn refuse<O: Sink>(alloc: Global, out: &mut O, fault: &BuildFault) -> Status
     status_of(fault)
 }
 
+/// Refuses a site that can't be built. It alone owns the fault, so that its caller drops none.
+fn refuse_site<O: Sink>(alloc: Global, out: &mut O, fault: BuildFault) -> Status
+    ensures status { (result ≡ status_of fault) ⊎ (result ≡ Status.NoMemory) }
+    ensures printed { Tells (O.told out.old) (O.told out.new) (Prints (fault_line fault)
+        (Rose (O.faults out.old) (O.faults out.new) ⊎ (result ≡ Status.NoMemory))) }
+{
+    refuse(alloc, out, &fault)
+}
+
 /// Runs the server with these words.
 fn run<R, F, W, S, K, U, G, C, L, O>(
     rt: &R,
@@ -127,9 +136,9 @@ where
         Err(NoMemory) => return Status::NoMemory,
     };
     match Generation::build(alloc, files, order.folder.as_str()) {
-        Err(fault) => refuse(alloc, out, &fault),
+        Err(fault) => refuse_site(alloc, out, fault),
         Ok(generation) => match order.task {
-            Task::Check => pass_check(out),
+            Task::Check => pass_check(out, generation),
             Task::Serve => serve_site(rt, alloc, generation, crew, kits, hub, out),
         },
     }

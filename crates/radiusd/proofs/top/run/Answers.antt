@@ -53,20 +53,20 @@ returns-in-Err-build-clause-headline g c =
     let history = c.args.hub.now.history in
     let out = g.O.Sink.told c.args.out.now in
     let before = g.O.Sink.faults c.args.out.now in
-    let printed = g.O.Sink.told c.refuse.new.out in
-    let now = g.O.Sink.faults c.refuse.new.out in
+    let printed = g.O.Sink.told c.refuse_site.new.out in
+    let now = g.O.Sink.faults c.refuse_site.new.out in
     let order = c.in-Ok-Some.order in
     let folder = c.as_str.result.now in
     let folder_is : order.folder ≡ folder = sym (ap (λ (o : OrderSeen). o.folder) c.order.view_is) ∙ sym c.as_str.ensures.value in
     let wrong = c.in-Err-build.fault in
-    let ended = c.refuse.result in
+    let ended = c.refuse_site.result in
     let course : Course = Unbuilt wrong in (
       course,
       unbuilt_course (map string_bytes c.args.words.now) folder wrong (g.F.Files.told c.args.files.now) (g.F.Files.told c.build.new.files) (folder_of_order (map string_bytes c.args.words.now) order (sym c.in-Ok-Some.ensures ∙ c.in-Ok-Some.field-0-is) ∙ ap Some folder_is) c.in-Err-build.ensures.told,
       subst (λ (kits : List (Kit g.row.W.Denot g.row.S.Denot g.row.K.Denot g.row.U.Denot g.row.G.Denot)). Headline tells course (number_of ended) crew crew c.args.hub.now.origin c.args.hub.now.origin out printed before now history history kits) (sym c.requires)
-          (headline_idle tells (number_of ended) crew crew c.args.hub.now.origin c.args.hub.now.origin out printed before now course history c.tally.ensures.legal (elim c.refuse.ensures.status [ inl of_fault ↦ inl (ap number_of of_fault) | inr memory ↦ inr (ap number_of memory) ], refl, refl) (Tells-same (GrowsBy []) crew (λ x. sym (append-nil x))) refl
+          (headline_idle tells (number_of ended) crew crew c.args.hub.now.origin c.args.hub.now.origin out printed before now course history c.tally.ensures.legal (elim c.refuse_site.ensures.status [ inl of_fault ↦ inl (ap number_of of_fault) | inr memory ↦ inr (ap number_of memory) ], refl, refl) (Tells-same (GrowsBy []) crew (λ x. sym (append-nil x))) refl
           (Prints-weaker out printed (fault_line wrong) (Rose before now ⊎ (ended ≡ status.NoMemory)) (IsExcused before now (number_of ended))
-          (λ either. elim either [ inl rose ↦ inl rose | inr memory ↦ inr (ap number_of memory) ]) c.refuse.ensures.printed)),
+          (λ either. elim either [ inl rose ↦ inl rose | inr memory ↦ inr (ap number_of memory) ]) c.refuse_site.ensures.printed)),
     )
 
 pub returns-in-Check-clause-headline : goal.returns-in-Check-clause-headline
@@ -109,9 +109,9 @@ returns-in-Err-build-clause-refused g c =
     let folder = c.as_str.result.now in
     let folder_is : order.folder ≡ folder = sym (ap (λ (o : OrderSeen). o.folder) c.order.view_is) ∙ sym c.as_str.ensures.value in
     IsRefused-by_fault (map string_bytes c.args.words.now) folder c.in-Err-build.fault
-    (g.F.Files.told c.args.files.now) (g.F.Files.told c.build.new.files) (g.O.Sink.told c.args.out.now) (g.O.Sink.told c.refuse.new.out)
-    (g.O.Sink.faults c.args.out.now) (g.O.Sink.faults c.refuse.new.out) c.refuse.result
-    (folder_of_order (map string_bytes c.args.words.now) order (sym c.in-Ok-Some.ensures ∙ c.in-Ok-Some.field-0-is) ∙ ap Some folder_is) c.in-Err-build.ensures.told c.refuse.ensures.status c.refuse.ensures.printed
+    (g.F.Files.told c.args.files.now) (g.F.Files.told c.build.new.files) (g.O.Sink.told c.args.out.now) (g.O.Sink.told c.refuse_site.new.out)
+    (g.O.Sink.faults c.args.out.now) (g.O.Sink.faults c.refuse_site.new.out) c.refuse_site.result
+    (folder_of_order (map string_bytes c.args.words.now) order (sym c.in-Ok-Some.ensures ∙ c.in-Ok-Some.field-0-is) ∙ ap Some folder_is) c.in-Err-build.ensures.told c.refuse_site.ensures.status c.refuse_site.ensures.printed
 
 pub returns-in-Err-build-clause-served : goal.returns-in-Err-build-clause-served
 returns-in-Err-build-clause-served g c =
@@ -119,8 +119,8 @@ returns-in-Err-build-clause-served g c =
     let folder = c.as_str.result.now in
     let folder_is : order.folder ≡ folder = sym (ap (λ (o : OrderSeen). o.folder) c.order.view_is) ∙ sym c.as_str.ensures.value in
     SiteGives-by_fault (map string_bytes c.args.words.now) folder c.in-Err-build.fault (g.F.Files.told c.args.files.now) (g.F.Files.told c.build.new.files)
-    (NothingFailed g.W.Wire.failures_in_a_row (g.F.Files.faults c.args.files.now) (g.F.Files.faults c.build.new.files) (g.C.Crew.faults c.args.crew.now) (g.C.Crew.faults c.args.crew.now) (g.O.Sink.faults c.args.out.now) (g.O.Sink.faults c.refuse.new.out) c.args.hub.now.history c.args.kits.now.items)
-    c.refuse.result (folder_of_order (map string_bytes c.args.words.now) order (sym c.in-Ok-Some.ensures ∙ c.in-Ok-Some.field-0-is) ∙ ap Some folder_is) c.in-Err-build.ensures.told c.refuse.ensures.status (λ is fine. fine.files (c.in-Err-build.ensures.faults.cause (ap Err is)))
+    (NothingFailed g.W.Wire.failures_in_a_row (g.F.Files.faults c.args.files.now) (g.F.Files.faults c.build.new.files) (g.C.Crew.faults c.args.crew.now) (g.C.Crew.faults c.args.crew.now) (g.O.Sink.faults c.args.out.now) (g.O.Sink.faults c.refuse_site.new.out) c.args.hub.now.history c.args.kits.now.items)
+    c.refuse_site.result (folder_of_order (map string_bytes c.args.words.now) order (sym c.in-Ok-Some.ensures ∙ c.in-Ok-Some.field-0-is) ∙ ap Some folder_is) c.in-Err-build.ensures.told c.refuse_site.ensures.status (λ is fine. fine.files (c.in-Err-build.ensures.faults.cause (ap Err is)))
 
 pub returns-in-Err-build-clause-checking : goal.returns-in-Err-build-clause-checking
 returns-in-Err-build-clause-checking g c =
@@ -128,9 +128,9 @@ returns-in-Err-build-clause-checking g c =
     let folder = c.as_str.result.now in
     let folder_is : order.folder ≡ folder = sym (ap (λ (o : OrderSeen). o.folder) c.order.view_is) ∙ sym c.as_str.ensures.value in
     λ check. SiteGives-by_fault (map string_bytes c.args.words.now) folder c.in-Err-build.fault (g.F.Files.told c.args.files.now) (g.F.Files.told c.build.new.files)
-    (NothingFailedOfCheck (g.F.Files.faults c.args.files.now) (g.F.Files.faults c.build.new.files) (g.O.Sink.faults c.args.out.now) (g.O.Sink.faults c.refuse.new.out))
-    c.refuse.result (folder_of_order (map string_bytes c.args.words.now) order (sym c.in-Ok-Some.ensures ∙ c.in-Ok-Some.field-0-is) ∙ ap Some folder_is) c.in-Err-build.ensures.told c.refuse.ensures.status (λ is fine. fine.files (c.in-Err-build.ensures.faults.cause (ap Err is)))
+    (NothingFailedOfCheck (g.F.Files.faults c.args.files.now) (g.F.Files.faults c.build.new.files) (g.O.Sink.faults c.args.out.now) (g.O.Sink.faults c.refuse_site.new.out))
+    c.refuse_site.result (folder_of_order (map string_bytes c.args.words.now) order (sym c.in-Ok-Some.ensures ∙ c.in-Ok-Some.field-0-is) ∙ ap Some folder_is) c.in-Err-build.ensures.told c.refuse_site.ensures.status (λ is fine. fine.files (c.in-Err-build.ensures.faults.cause (ap Err is)))
 
 pub returns-in-Err-build-clause-found : goal.returns-in-Err-build-clause-found
 returns-in-Err-build-clause-found g c =
-    FaultGives-by_fault (map string_bytes c.args.words.now) c.in-Err-build.fault (g.F.Files.told c.args.files.now) (g.F.Files.told c.build.new.files) _ c.refuse.result c.in-Err-build.ensures.told c.refuse.ensures.status
+    FaultGives-by_fault (map string_bytes c.args.words.now) c.in-Err-build.fault (g.F.Files.told c.args.files.now) (g.F.Files.told c.build.new.files) _ c.refuse_site.result c.in-Err-build.ensures.told c.refuse_site.ensures.status
