@@ -8,4 +8,5 @@ pub mod Passes
 pub mod Installs
 pub mod Headlines
 pub mod Statuses
+pub mod Folders
 pub mod Tallies

@@ -9,7 +9,7 @@ use Rattle.radiusd.specs.declared.status.Status.{Status}
 use Rattle.radiusd.specs.declared.status.Status.TheVariants as status
 use Rattle.radiusd.specs.Course.{IsExcused}
 use Rattle.radiusd.specs.Printing.{Prints, PrintsWhole, IsCutShort}
-use Rattle.radiusd.specs.Statuses.{number_of}
+use Rattle.radiusd.specs.ExitStatuses.{number_of}
 use Rattle.rad_outside.proofs.Tellings.{Tells-trans, Tells-same, Tells-weaker}
 
 -- a count that rose has risen since earlier, and later too

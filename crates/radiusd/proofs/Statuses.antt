@@ -1,5 +1,6 @@
 -- What a fault of a site says of the status that a run ends with.
 use Rattle.std.proofs.Common.{ℕ, ◌≡◌, ◌⊎◌, List, Option, Some, None, Ok, Err, inl, inr, refl, ap, sym, ◌∙◌, subst}
+use Rattle.std.specs.Option.{option_map}
 use Rattle.rad_outside.specs.declared.crew.Kit.{Kit}
 use Rattle.rad_outside.specs.Telling.{Tells, Rose}
 use Rattle.rad_outside.specs.Files.{File, FilesTold, begun}
@@ -12,10 +13,14 @@ use Rattle.radiusd.specs.declared.status.Status.TheVariants as status
 use Rattle.rad_site.specs.Site.{Site}
 use Rattle.rad_site.specs.Built.{built}
 use Rattle.rad_site.specs.Meaning.{site_meaning}
-use Rattle.radiusd.specs.Words.{folder_in}
+use Rattle.radiusd.specs.OrderSeen.{OrderSeen}
+use Rattle.radiusd.specs.declared.order.Task.{Task}
+use Rattle.radiusd.specs.declared.order.Task.TheVariants.{Check, Serve}
+use Rattle.radiusd.specs.Words.{both, order_in, folder_in}
 use Rattle.radiusd.specs.Printing.{Prints}
-use Rattle.radiusd.specs.Course.{IsCourse, Unbuilt, Serving, fault_line, HasDeafWire}
-use Rattle.radiusd.specs.Statuses.{number_of, status_of, IsServing, IsSiteFault, IsRefused, FaultGives, SiteGives, NothingFailed, IsListed, IsFull}
+use Rattle.radiusd.specs.Course.{IsCourse, Unbuilt, Checked, Serving, fault_line, HasDeafWire}
+use Rattle.radiusd.specs.ExitStatuses.{number_of, status_of, IsServing}
+use Rattle.radiusd.specs.Statuses.{IsSiteFault, IsRefused, FaultGives, SiteGives, NothingFailed, IsListed, IsFull}
 use Rattle.rad_outside.proofs.Tellings.{Tells-same, Tells-weaker}
 use Rattle.radiusd.proofs.Printings.{Prints-weaker}
 
@@ -64,7 +69,7 @@ IsRefused-by_fault words folder wrong files_before files_now printed_before prin
           (λ excuse. elim excuse [ inl rose ↦ rose | inr none ↦ cc ]) printed;
     }
 
--- the course of a site that has no generation, and of one that has
+-- the course of a site that has no generation, of one that is checked and of one that is served
 pub unbuilt_course : (words : List (List ℕ)) (folder : List ℕ) (wrong : BuildFault) (files_before files_now : Option FilesTold)
     → folder_in words ≡ Some folder
     → Tells files_before files_now (λ before now. (now ≡ begun before) × IsBuilt site_meaning (record { files = (begun before).present; folder = folder }) (Err wrong))
@@ -75,8 +80,18 @@ unbuilt_course words folder wrong files_before files_now words_are told = (
   told,
 )
 
+pub checked_course : (words : List (List ℕ)) (folder : List ℕ) (site : Site) (files_before files_now : Option FilesTold)
+    → order_in words ≡ Some (record { task = Check; folder = folder })
+    → Tells files_before files_now (λ before now. (now ≡ begun before) × IsBuilt site_meaning (record { files = (begun before).present; folder = folder }) (Ok site))
+    → IsCourse words files_before files_now (Checked site)
+checked_course words folder site files_before files_now words_are told = (
+  folder,
+  words_are,
+  told,
+)
+
 pub serving_course : (words : List (List ℕ)) (folder : List ℕ) (site : Site) (files_before files_now : Option FilesTold)
-    → folder_in words ≡ Some folder
+    → order_in words ≡ Some (record { task = Serve; folder = folder })
     → Tells files_before files_now (λ before now. (now ≡ begun before) × IsBuilt site_meaning (record { files = (begun before).present; folder = folder }) (Ok site))
     → IsCourse words files_before files_now (Serving site)
 serving_course words folder site files_before files_now words_are told = (
@@ -84,6 +99,16 @@ serving_course words folder site files_before files_now words_are told = (
   words_are,
   told,
 )
+
+-- words that order something order its task and its folder
+pub ordered : (words : List (List ℕ)) (order : OrderSeen) (task : Task) (folder : List ℕ) → order_in words ≡ Some order → order.task ≡ task → order.folder ≡ folder
+    → order_in words ≡ Some (record { task = task; folder = folder })
+ordered words order task folder is task_is folder_is =
+    is ∙ ap (λ (t : Task). both (Some t) (Some order.folder)) task_is ∙ ap (λ (f : List ℕ). both (Some task) (Some f)) folder_is
+
+-- the folder that an order names
+pub folder_of_order : (words : List (List ℕ)) (order : OrderSeen) → order_in words ≡ Some order → folder_in words ≡ Some order.folder
+folder_of_order words order is = ap (option_map (λ (o : OrderSeen). o.folder)) is
 
 -- a site is built to one thing
 one_built : (words : List (List ℕ)) (folder other : List ℕ) (wrong : BuildFault) (site : Site) (files : List File) → folder_in words ≡ Some folder → folder_in words ≡ Some other

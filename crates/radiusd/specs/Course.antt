@@ -16,26 +16,36 @@ use Rattle.rad_site.specs.Built.{built}
 use Rattle.radiusd.specs.Counting.{counts_of}
 use Rattle.rad_site.specs.FaultText.{fault_text}
 use Rattle.radiusd.specs.History.{listener_of}
-use Rattle.radiusd.specs.Lines.{listening_line, counts_line, socket_fault_line, worn_line, usage_line}
+use Rattle.radiusd.specs.Lines.{listening_line, counts_line, socket_fault_line, worn_line, usage_line, checked_line}
 use Rattle.rad_site.specs.Meaning.{site_meaning}
 use Rattle.rad_site.specs.Site.{Site}
-use Rattle.radiusd.specs.Words.{folder_in}
+use Rattle.radiusd.specs.declared.order.Task.TheVariants.{Check, Serve}
+use Rattle.radiusd.specs.ExitStatuses.{number_of, status_of}
+use Rattle.radiusd.specs.Words.{order_in, folder_in}
 
--- The words were others; the folder has no generation, for this fault; the generation of this site was to be served.
+-- There was no memory to read the words; the words are refused; the folder has no generation, for this fault; the generation
+-- of this site was built, and that was all that was ordered; the generation of this site was to be served.
 pub data Course : Type 0 where
+  Unread : Course
   Misworded : Course
   Unbuilt : (wrong : BuildFault) → Course
+  Checked : (site : Site) → Course
   Serving : (site : Site) → Course
 
 -- Whether a run took this course is a matter of its words and of the next map of its files: the site is what that map
--- is built to in the words' folder, and so is a fault, or it is a read fault or want of memory. The files have begun that
--- map and no other; where the words are others they are as they were.
+-- is built to in the words' folder, and so is a fault, or it is a read fault or want of memory. Whether the site is checked or
+-- served is what the words order. The files have begun that map and no other; where the words are refused, or couldn't be
+-- read, they are as they were.
 abbrev pub IsCourse : List (List ℕ) → Option FilesTold → Option FilesTold → Course → Type 0
-IsCourse words files_before files_now Misworded = (folder_in words ≡ None) × Tells files_before files_now (λ before now. now ≡ before)
+IsCourse words files_before files_now Unread = Tells files_before files_now (λ before now. now ≡ before)
+IsCourse words files_before files_now Misworded = (order_in words ≡ None) × Tells files_before files_now (λ before now. now ≡ before)
 IsCourse words files_before files_now (Unbuilt wrong) = (folder : List ℕ) × (folder_in words ≡ Some folder)
     × Tells files_before files_now (λ before now. (now ≡ begun before)
     × IsBuilt site_meaning (record { files = (begun before).present; folder = folder }) (Err wrong))
-IsCourse words files_before files_now (Serving site) = (folder : List ℕ) × (folder_in words ≡ Some folder)
+IsCourse words files_before files_now (Checked site) = (folder : List ℕ) × (order_in words ≡ Some (record { task = Check; folder = folder }))
+    × Tells files_before files_now (λ before now. (now ≡ begun before)
+    × (built (record { files = (begun before).present; folder = folder }) ≡ Ok site))
+IsCourse words files_before files_now (Serving site) = (folder : List ℕ) × (order_in words ≡ Some (record { task = Serve; folder = folder }))
     × Tells files_before files_now (λ before now. (now ≡ begun before)
     × (built (record { files = (begun before).present; folder = folder }) ≡ Ok site))
 
@@ -66,8 +76,10 @@ serving_lines site status (handed ∷ more) added = listening_line site.server s
 
 -- The lines of a run, by its course, its exit status, the kits that were handed out and the entries that it added.
 abbrev pub lines_of : {H : Type 0} → Course → ℕ → List H → List (Entry Site BuildFault) → List ℕ
+lines_of Unread status handed added = []
 lines_of Misworded status handed added = usage_line
 lines_of (Unbuilt wrong) status handed added = fault_line wrong
+lines_of (Checked site) status handed added = checked_line
 lines_of (Serving site) status handed added = serving_lines site status handed added
 
 -- What excuses a run that doesn't print all of its lines: the sink failed, or memory ran out.
@@ -101,10 +113,23 @@ BeginsWithInstall site [] = Unit {0}
 BeginsWithInstall site (entry ∷ more) =
     (answer : Installed BuildFault) × (entry ≡ Install 0 (Ok site) (listener_of site ∷ []) answer)
 
--- What a run adds and which kits it takes, by its course: nothing and none where it serves no site.
+-- The exit statuses of a run that serves no site: 1 where its words are refused; that of the fault, or want of memory, where the
+-- folder has no generation; and where its site is checked 0, or 6 where that couldn't be printed. One that serves may end with
+-- any that its other clauses allow.
+abbrev pub EndsSo : Course → ℕ → Type 0
+EndsSo Unread status = status ≡ 8
+EndsSo Misworded status = status ≡ 1
+EndsSo (Unbuilt wrong) status = (status ≡ number_of (status_of wrong)) ⊎ (status ≡ 8)
+EndsSo (Checked site) status = (status ≡ 0) ⊎ (status ≡ 6)
+EndsSo (Serving site) status = Unit {0}
+
+-- What a run adds and which kits it takes, by its course: nothing and none where it serves no site. So one that checks its site
+-- takes no request, loads nothing, opens no kit and starts no worker.
 abbrev pub Takes : {W S K U G : Type 0} → Course → ℕ → List (Handed W S K U G) → List (Entry Site BuildFault) → Type 0
-Takes Misworded status handed added = (added ≡ []) × (handed ≡ [])
-Takes (Unbuilt wrong) status handed added = (added ≡ []) × (handed ≡ [])
+Takes Unread status handed added = EndsSo Unread status × (added ≡ []) × (handed ≡ [])
+Takes Misworded status handed added = EndsSo Misworded status × (added ≡ []) × (handed ≡ [])
+Takes (Unbuilt wrong) status handed added = EndsSo (Unbuilt wrong) status × (added ≡ []) × (handed ≡ [])
+Takes (Checked site) status handed added = EndsSo (Checked site) status × (added ≡ []) × (handed ≡ [])
 Takes (Serving site) status handed added = BeginsWithInstall site added × AreKitsOf site status handed added
 
 -- One of these kits has a wire whose last 100 asks failed.

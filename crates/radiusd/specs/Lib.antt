@@ -4,7 +4,9 @@ pub mod Turn
 pub mod Told
 pub mod Leaving
 pub mod Serving
+pub mod OrderSeen
 pub mod Words
+pub mod ExitStatuses
 pub mod Counting
 pub mod Lines
 pub mod Printing

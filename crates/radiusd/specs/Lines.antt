@@ -27,6 +27,10 @@ socket_fault_line = codes "socket fault" ++ 10 ∷ []
 abbrev pub worn_line : List ℕ
 worn_line = codes "worn 4611686018427387904" ++ 10 ∷ []
 
--- The usage line of words that are refused.
+-- The usage line of words that are refused. It has `-B` too, which isn't taken yet.
 abbrev pub usage_line : List ℕ
-usage_line = codes "usage: radiusd -s -d DIR" ++ 10 ∷ []
+usage_line = codes "usage: radiusd [-C] [-s] [-f] [-d DIR] [-B N]" ++ 10 ∷ []
+
+-- The line of a site that was checked and has no fault.
+abbrev pub checked_line : List ℕ
+checked_line = codes "Configuration appears to be OK" ++ 10 ∷ []

@@ -11,42 +11,11 @@ use Rattle.radiusd.specs.declared.status.Status.TheVariants as status
 use Rattle.rad_site.specs.Built.{built}
 use Rattle.radiusd.specs.Course.{fault_line, HasDeafWire}
 use Rattle.radiusd.specs.History.{TriesInstall}
-use Rattle.radiusd.specs.Printing.{Prints}
+use Rattle.radiusd.specs.Lines.{checked_line}
+use Rattle.radiusd.specs.Printing.{Prints, PrintsWhole}
 use Rattle.rad_site.specs.Site.{Site}
-use Rattle.radiusd.specs.Words.{folder_in}
-
--- The exit status of the program.
-abbrev pub number_of : Status → ℕ
-number_of status.Done = 0
-number_of status.Words = 1
-number_of status.Configuration = 2
-number_of status.ReadFault = 3
-number_of status.SocketFault = 4
-number_of status.PrintFault = 6
-number_of status.Worn = 7
-number_of status.NoMemory = 8
-
--- A status that comes once the site is built.
-abbrev pub IsServing : Status → Type 0
-IsServing status.Done = Unit {0}
-IsServing status.Words = ⊥
-IsServing status.Configuration = ⊥
-IsServing status.ReadFault = ⊥
-IsServing status.SocketFault = Unit {0}
-IsServing status.PrintFault = Unit {0}
-IsServing status.Worn = Unit {0}
-IsServing status.NoMemory = Unit {0}
-
--- The status of a fault: one of the configuration, a read fault or want of memory.
-abbrev pub status_of : BuildFault → Status
-status_of (fault.Conf wrong) = status.Configuration
-status_of (fault.Dict wrong) = status.Configuration
-status_of (fault.Users file wrong) = status.Configuration
-status_of (fault.Tree wrong) = status.Configuration
-status_of (fault.BadSetting place name) = status.Configuration
-status_of (fault.UnknownModule place kind) = status.Configuration
-status_of fault.ReadFault = status.ReadFault
-status_of fault.NoMemory = status.NoMemory
+use Rattle.radiusd.specs.declared.order.Task.TheVariants.{Check}
+use Rattle.radiusd.specs.Words.{order_in, folder_in}
 
 -- A fault of the site's own text, neither a read fault nor want of memory.
 abbrev pub IsSiteFault : BuildFault → Type 0
@@ -68,6 +37,15 @@ pub record IsRefused (words : List (List ℕ)) (files_before files_now : Option 
   pub site : IsSiteFault fault
   pub is_built : Tells files_before files_now (λ before now. built (record { files = (begun before).present; folder = folder }) ≡ Err fault)
   pub printed : Tells printed_before printed_now (Prints (fault_line fault) (Rose faults_before faults_now))
+
+-- The site was checked and has no fault: the words order a check of a folder, the next map of the files is built there to a
+-- site, and the line that says so was printed whole. Nothing else was printed.
+pub record IsChecked (words : List (List ℕ)) (files_before files_now : Option FilesTold) (printed_before printed_now : Option (List ℕ)) : Type 0 where
+  pub site : Site
+  pub folder : List ℕ
+  pub words_are : order_in words ≡ Some (record { task = Check; folder = folder })
+  pub is_built : Tells files_before files_now (λ before now. built (record { files = (begun before).present; folder = folder }) ≡ Ok site)
+  pub printed : Tells printed_before printed_now (PrintsWhole checked_line)
 
 -- Where the words name a folder, and the next map of the files is built there to a fault, the run ends so.
 abbrev pub FaultGives : List (List ℕ) → Type 0 → Option FilesTold → Option FilesTold → Type 0
@@ -96,6 +74,11 @@ pub record NothingFailed {W S K U G : Type 0} (failures : W → ℕ) (files_befo
   pub crew : ¬ Rose crew_before crew_now
   pub sink : ¬ Rose sink_before sink_now
   pub wires : ¬ HasDeafWire failures kits
+
+-- What a run's devices have had by its end that checks its site: neither the files' count of faults rose nor the sink's.
+pub record NothingFailedOfCheck (files_before files_now sink_before sink_now : ℕ) : Type 0 where
+  pub files : ¬ Rose files_before files_now
+  pub sink : ¬ Rose sink_before sink_now
 
 -- Where the words name a folder, and the next map of the files is built there to a site, the run ends so if nothing
 -- failed.

@@ -4,11 +4,13 @@
 //! Only the thin program stands above it, which makes the real devices and hands them in.
 #![tactic(auto)]
 
+mod checking;
 mod counts;
 mod hub;
 mod install;
 mod left;
 mod lines;
+mod order;
 mod printing;
 mod serving;
 mod site;

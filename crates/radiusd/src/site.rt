@@ -7,7 +7,8 @@ ghost use Rattle.radiusd.specs.History.{state_after};
 ghost use Rattle.radiusd.specs.Leaving.{IsAtEnd};
 ghost use Rattle.radiusd.specs.Lines.{listening_line, counts_line};
 ghost use Rattle.radiusd.specs.Printing.{Prints, PrintsWhole, IsCutShort};
-ghost use Rattle.radiusd.specs.Statuses.{IsFull, IsServing, number_of};
+ghost use Rattle.radiusd.specs.ExitStatuses.{IsServing, number_of};
+ghost use Rattle.radiusd.specs.Statuses.{IsFull};
 
 use crate::counts::{Counts, counts_between};
 use crate::hub::Hub;

@@ -1,5 +1,5 @@
 ghost use Rattle.std.specs.Prelude.{◌≡◌};
-ghost use Rattle.radiusd.specs.Statuses.{number_of};
+ghost use Rattle.radiusd.specs.ExitStatuses.{number_of};
 
 /// How a run of the server ended.
 #[derive(Clone, Copy, Debug, PartialEq, Eq)]

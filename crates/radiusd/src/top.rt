@@ -1,18 +1,21 @@
-ghost use Rattle.std.specs.Prelude.{◌≡◌, ◌≤◌, ◌↔◌, ◌⊎◌, [], map, string_bytes, None, IfOk, IsTrue};
+ghost use Rattle.std.specs.Prelude.{◌≡◌, ◌⊎◌, [], map, string_bytes, None, IfOk, IsTrue};
 ghost use Rattle.std.specs.List.{AllByRecursion};
 ghost use Rattle.rad_outside.specs.Telling.{Tells, Rose};
 ghost use Rattle.radiusd.specs.Course.{HasDeafWire, fault_line};
+ghost use Rattle.radiusd.specs.ExitStatuses.{number_of, status_of};
 ghost use Rattle.radiusd.specs.Headline.{Headline, RunsAs};
 ghost use Rattle.radiusd.specs.History.{state_after};
 ghost use Rattle.radiusd.specs.Printing.{Prints};
-ghost use Rattle.radiusd.specs.Statuses.{number_of, status_of, IsFull, IsRefused, FaultGives, SiteGives, NothingFailed, IsListed};
-ghost use Rattle.radiusd.specs.Words.{folder_in};
+ghost use Rattle.radiusd.specs.Statuses.{IsFull, IsRefused, IsChecked, FaultGives, SiteGives, NothingFailed, NothingFailedOfCheck, IsListed};
+ghost use Rattle.radiusd.specs.Words.{order_in, IsCheck};
 
+use crate::checking::pass_check;
 use crate::hub::Hub;
+use crate::order::Task;
 use crate::printing::say;
 use crate::site::serve_site;
 use crate::status::Status;
-use crate::words::{USAGE, folder_of};
+use crate::words::{USAGE, order_in};
 use rad_outside::{Clock, Crew, Files, Gate, Kit, Luck, NoMemory, Octets, Shelf, Sink, Wire};
 use rad_policy::Policy;
 use rad_site::{BuildFault, Generation, fault_text};
@@ -62,6 +65,15 @@ fn refuse<O: Sink>(alloc: Global, out: &mut O, fault: &BuildFault) -> Status
     status_of(fault)
 }
 
+/// Refuses a site that can't be built. It alone owns the fault, so that its caller drops none.
+fn refuse_site<O: Sink>(alloc: Global, out: &mut O, fault: BuildFault) -> Status
+    ensures status { (result ≡ status_of fault) ⊎ (result ≡ Status.NoMemory) }
+    ensures printed { Tells (O.told out.old) (O.told out.new) (Prints (fault_line fault)
+        (Rose (O.faults out.old) (O.faults out.new) ⊎ (result ≡ Status.NoMemory))) }
+{
+    refuse(alloc, out, &fault)
+}
+
 /// Runs the server with these words.
 fn run<R, F, W, S, K, U, G, C, L, O>(
     rt: &R,
@@ -89,7 +101,8 @@ where
         Headline (record { wire = W.told; clock = K.told; luck = U.told; failures = W.failures_in_a_row; has_ended = W.has_ended })
         course (number_of result) (C.told crew.old) (C.told crew.new) hub.old.origin hub.new.origin
         (O.told out.old) (O.told out.new) (O.faults out.old) (O.faults out.new) hub.old.history hub.new.history kits.new.items) }
-    ensures words { (result ≡ Status.Words) ↔ (folder_in (map string_bytes words.now) ≡ None) }
+    ensures words { result ≡ Status.Words → order_in (map string_bytes words.now) ≡ None }
+    ensures refusing { order_in (map string_bytes words.now) ≡ None → (result ≡ Status.Words) ⊎ (result ≡ Status.NoMemory) }
     ensures refused { result ≡ Status.Configuration → IsRefused (map string_bytes words.now)
         (F.told files.old) (F.told files.new) (O.told out.old) (O.told out.new) (O.faults out.old) (O.faults out.new) }
     ensures found { FaultGives (map string_bytes words.now)
@@ -106,27 +119,44 @@ where
         (NothingFailed W.failures_in_a_row (F.faults files.old) (F.faults files.new) (C.faults crew.old) (C.faults crew.new)
         (O.faults out.old) (O.faults out.new) hub.new.history kits.new.items)
         ((result ≡ Status.Done) ⊎ (result ≡ Status.NoMemory)) (F.told files.old) (F.told files.new) }
+    ensures checked { IsCheck (order_in (map string_bytes words.now)) → result ≡ Status.Done → IsChecked (map string_bytes words.now)
+        (F.told files.old) (F.told files.new) (O.told out.old) (O.told out.new) }
+    ensures checking { IsCheck (order_in (map string_bytes words.now)) → SiteGives (map string_bytes words.now)
+        (NothingFailedOfCheck (F.faults files.old) (F.faults files.new) (O.faults out.old) (O.faults out.new))
+        ((result ≡ Status.Done) ⊎ (result ≡ Status.NoMemory)) (F.told files.old) (F.told files.new) }
+    ensures untouched { IsCheck (order_in (map string_bytes words.now)) → (hub.new ≡ hub.old) × (crew.new ≡ crew.old) × (kits.new.items ≡ []) }
 {
     let _ = hub.tally();
-    let Some(folder) = folder_of(words) else {
-        let _ = say(out, USAGE);
-        return Status::Words;
+    let order = match order_in(alloc, words) {
+        Ok(Some(order)) => order,
+        Ok(None) => {
+            let _ = say(out, USAGE);
+            return Status::Words;
+        }
+        Err(NoMemory) => return Status::NoMemory,
     };
-    match Generation::build(alloc, files, folder) {
-        Err(fault) => refuse(alloc, out, &fault),
-        Ok(generation) => serve_site(rt, alloc, generation, crew, kits, hub, out),
+    match Generation::build(alloc, files, order.folder.as_str()) {
+        Err(fault) => refuse_site(alloc, out, fault),
+        Ok(generation) => match order.task {
+            Task::Check => pass_check(out, generation),
+            Task::Serve => serve_site(rt, alloc, generation, crew, kits, hub, out),
+        },
     }
 }
 
-/// The server. With the words `radiusd -s -d DIR` it serves the site in that folder on one thread until its worker
-/// leaves, and answers the exit status of the program: 0 the listener's wire ended or a stop came, 1 other words, 2 a
-/// fault of the configuration, 3 a read fault, 4 a socket fault, 6 a print fault, 7 a full history, 8 want of memory.
+/// The server. The words are `radiusd [-C] [-s] [-f] [-d DIR]`, with the site's folder `/etc/raddb` where none is named. With
+/// `-s` it serves the site in that folder on one thread until its worker leaves; with `-C` it builds the site, says in one line
+/// whether it could, and ends: no kit is taken, nothing is added to the history, and the hub and the crew are as they were. `-f`
+/// changes nothing. It answers the exit status of the program: 0 the listener's wire ended, a stop came or the site was checked
+/// and has no fault, 1 other words, 2 a fault of the configuration, 3 a read fault, 4 a socket fault, 6 a print fault, 7 a full
+/// history, 8 want of memory.
 ///
 /// The headline holds of every run, whatever its status: see `specs/Headline.antt`. What each status says, and when it
-/// comes, is in `specs/Statuses.antt`: 1 exactly where the words are others; 2 only where the site is built to a fault
-/// of its own text, whose line `FILE[LINE]: REASON` is printed; 3, 4 and 6 only where the files, the crew or a wire, and
-/// the sink failed; 7 only where the history has no room for two more entries; 0 only where a stop stands or the wires
-/// ended. A site that has a fault is answered 2, 3 or 8, and one without a fault 0 or 8 where nothing failed.
+/// comes, is in `specs/Statuses.antt`: 1 only where the words are others, which are answered 1 or 8; 2 only where the site is
+/// built to a fault of its own text, whose line `FILE[LINE]: REASON` is printed; 3, 4 and 6 only where the files, the crew or a
+/// wire, and the sink failed; 7 only where the history has no room for two more entries; 0 only where a stop stands or the wires
+/// ended, or the check was ordered, the site is built and the line that says so was printed. A site that has a fault is answered
+/// 2, 3 or 8, and one without a fault 0 or 8 where nothing failed.
 pub fn radiusd<R, F, W, S, K, U, G, C, L, O>(
     rt: &R,
     alloc: Global,
@@ -153,7 +183,8 @@ where
         Headline (record { wire = W.told; clock = K.told; luck = U.told; failures = W.failures_in_a_row; has_ended = W.has_ended })
         course (result) (C.told crew.old) (C.told crew.new) hub.old.origin hub.new.origin
         (O.told out.old) (O.told out.new) (O.faults out.old) (O.faults out.new) hub.old.history hub.new.history kits.new.items) }
-    ensures words { (result ≡ 1) ↔ (folder_in (map string_bytes words.now) ≡ None) }
+    ensures words { result ≡ 1 → order_in (map string_bytes words.now) ≡ None }
+    ensures refusing { order_in (map string_bytes words.now) ≡ None → (result ≡ 1) ⊎ (result ≡ 8) }
     ensures refused { result ≡ 2 → IsRefused (map string_bytes words.now)
         (F.told files.old) (F.told files.new) (O.told out.old) (O.told out.new) (O.faults out.old) (O.faults out.new) }
     ensures found { FaultGives (map string_bytes words.now)
@@ -170,6 +201,12 @@ where
         (NothingFailed W.failures_in_a_row (F.faults files.old) (F.faults files.new) (C.faults crew.old) (C.faults crew.new)
         (O.faults out.old) (O.faults out.new) hub.new.history kits.new.items)
         ((result ≡ 0) ⊎ (result ≡ 8)) (F.told files.old) (F.told files.new) }
+    ensures checked { IsCheck (order_in (map string_bytes words.now)) → result ≡ 0 → IsChecked (map string_bytes words.now)
+        (F.told files.old) (F.told files.new) (O.told out.old) (O.told out.new) }
+    ensures checking { IsCheck (order_in (map string_bytes words.now)) → SiteGives (map string_bytes words.now)
+        (NothingFailedOfCheck (F.faults files.old) (F.faults files.new) (O.faults out.old) (O.faults out.new))
+        ((result ≡ 0) ⊎ (result ≡ 8)) (F.told files.old) (F.told files.new) }
+    ensures untouched { IsCheck (order_in (map string_bytes words.now)) → (hub.new ≡ hub.old) × (crew.new ≡ crew.old) × (kits.new.items ≡ []) }
     ensures listed { IsListed result }
 {
     run(rt, alloc, words, files, crew, kits, hub, out).number()

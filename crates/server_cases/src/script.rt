@@ -110,7 +110,7 @@ fn cuts_of(alloc: Global, text: &[u8]) -> Result<Vec<(u64, usize)>, NoMemory> {
     Ok(cuts)
 }
 
-/// Adds a file of the folder `site` to the last map.
+/// Adds a file to the last map.
 fn take_file(alloc: Global, plan: &mut Plan, path: &[u8], text: &[u8]) -> Result<(), NoMemory> {
     let path = path_of(alloc, path)?;
     let text = Octets::of(alloc, text)?;
@@ -120,9 +120,13 @@ fn take_file(alloc: Global, plan: &mut Plan, path: &[u8], text: &[u8]) -> Result
     Ok(())
 }
 
-/// The path of a file of the folder `site`.
+/// The path of a file: one that begins with `/` as it stands, any other in the folder `site`.
 fn path_of(alloc: Global, path: &[u8]) -> Result<Octets, NoMemory> {
-    let mut whole = Vec::from_slice(alloc, b"site/")?;
+    let folder: &[u8] = match path {
+        [b'/', ..] => b"",
+        _ => b"site/",
+    };
+    let mut whole = Vec::from_slice(alloc, folder)?;
     whole.extend_from_slice(path)?;
     Ok(Octets::from_vec(whole))
 }

@@ -9,7 +9,7 @@ use Rattle.radiusd.specs.declared.status.Status.{Status}
 use Rattle.radiusd.specs.declared.counts.Counts.{Counts}
 use Rattle.radiusd.specs.Counting.{counts_of}
 use Rattle.rad_site.specs.Site.{Site}
-use Rattle.radiusd.specs.Statuses.{number_of}
+use Rattle.radiusd.specs.ExitStatuses.{number_of}
 use Rattle.radiusd.specs.Told.{KitTells, GrowsBy}
 use Rattle.radiusd.specs.Course.{Serving, IsExcused, Call, closing_lines, status_line}
 use Rattle.radiusd.specs.Lines.{listening_line, counts_line}
