@@ -21,8 +21,8 @@ has_expansion (c ∷ rest) = (c == 37 && slice_index rest 0 == 123) || has_expan
 abbrev pub config_of : Bool → Config
 config_of insensitive = record default_config { utf8 = false; flags = record default_config.flags { case_insensitive = insensitive } }
 
--- The regular expression that a text writes, with how deep it nests and the names of its groups, if it writes one; and whether
--- letters match in either case.
+-- The regular expression that a text writes where letters match in either case, or don't: with how deep it nests, and the names
+-- of its groups, the whole among them. None where the text writes none.
 abbrev pub expression_of : List ℕ → Bool → Option (Nested Re × Names)
 expression_of source insensitive = read (config_of insensitive) (chars source)
 
