@@ -9,7 +9,7 @@ use Rattle.rad_core.specs.State.{ServerState, opening}
 use Rattle.rad_core.specs.declared.entry.Entry.{Entry}
 use Rattle.rad_core.specs.declared.entry.Entry.TheVariants.{Install}
 use Rattle.rad_core.specs.Step.{after, IsLegal}
-use Rattle.rad_core.specs.Worker.{Placed, placed, of_worker, served, IsClosed, IsOwn}
+use Rattle.rad_core.specs.Worker.{Placed, placed, of_worker, IsClosed, IsOwn}
 use Rattle.rad_core.proofs.Histories.{run-append, IsLegal-append, of_worker-own}
 use Rattle.rad_core.proofs.Stemming.{keeps_replies}
 use Rattle.rad_core.proofs.Completeness.{may_all, may_own, each_one_reply}
@@ -18,7 +18,7 @@ use Rattle.radiusd.specs.declared.left.Left.{Left}
 use Rattle.rad_site.specs.Site.{Site}
 use Rattle.rad_site.specs.Meaning.{site_meaning}
 use Rattle.radiusd.specs.History.{state_after, listener_of, Installs, TriesInstall}
-use Rattle.radiusd.specs.Told.{KitTells, Told, GrowsBy, IsAt}
+use Rattle.radiusd.specs.Told.{KitTells, Told, GrowsBy}
 use Rattle.radiusd.specs.Leaving.{Leaves, IsAtEnd}
 use Rattle.radiusd.specs.Printing.{Prints}
 use Rattle.radiusd.specs.Course.{Course, Serving, Takes, BeginsWithInstall, IsExcused, Call, call_of, lines_of}

@@ -1,5 +1,5 @@
 -- The hub's invariant over an install.
-use Rattle.std.proofs.Common.{ℕ, ◌≡◌, List, [], ◌∷◌, Bool, IsTrue, Some, Ok, refl, ap, sym, ◌∙◌, subst}
+use Rattle.std.proofs.Common.{ℕ, ◌≡◌, List, Bool, IsTrue, Some, Ok, refl, ap, ◌∙◌, subst}
 use Rattle.std.proofs.lemmas.Bool.{false≢true}
 use Rattle.rad_outside.specs.declared.listen.Listen.{Listen}
 use Rattle.rad_turn.specs.declared.view.View.{View}

@@ -4,7 +4,6 @@ use Rattle.std.specs.List.{count_by}
 use Rattle.std.specs.Option.{is_some}
 use Rattle.std.specs.Arc.{arc_value}
 use Rattle.rad_policy.specs.declared.arrival.Arrived.{Arrived}
-use Rattle.rad_policy.specs.declared.ending.Ending.{Ending}
 use Rattle.rad_policy.specs.declared.outcome.Outcome.{Outcome}
 use Rattle.rad_policy.specs.declared.outcome.Outcome.TheVariants as outcome
 use Rattle.rad_core.specs.declared.started.StartAnswer.{StartAnswer}
@@ -31,7 +30,7 @@ use Rattle.rad_site.specs.Meaning.{site_meaning}
 use Rattle.radiusd.specs.History.{IsAlone, state_after}
 use Rattle.radiusd.specs.Turn.{AddsTurn, CountsTurn, AnswersAtOnce, FitsAnswer, answers_of, IsCopied}
 use Rattle.radiusd.specs.declared.counts.Tally.{Tally}
-use Rattle.radiusd.specs.Counting.{sends, is_repeat, tally_of, is_request, is_reply, is_install, is_refusal}
+use Rattle.radiusd.specs.Counting.{sends, is_repeat, is_request, is_reply, is_install, is_refusal}
 use Rattle.radiusd.proofs.Kept.{grows, stepped}
 use Rattle.radiusd.proofs.Tallies.{tally_push, same_tally, length_push}
 

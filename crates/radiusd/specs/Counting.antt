@@ -1,5 +1,5 @@
 -- The counts of a run, over the entries that it added. This project's own.
-use Rattle.std.specs.Prelude.{ℕ, ◌+◌, ◌-◌, Bool, true, false, List, drop, if◌then◌else◌}
+use Rattle.std.specs.Prelude.{◌+◌, ◌-◌, Bool, true, false, List, drop, if◌then◌else◌}
 use Rattle.std.specs.List.{count_by}
 use Rattle.rad_policy.specs.declared.ending.Ending.{Ending}
 use Rattle.rad_policy.specs.declared.ending.Ending.TheVariants.{Sent, Withheld, OutOfMemory}

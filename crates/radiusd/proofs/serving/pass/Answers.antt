@@ -1,14 +1,11 @@
-use Rattle.std.proofs.Common.{ℕ, List, [], Some, None, take, not, subst, sym, ap, refl, arith}
+use Rattle.std.proofs.Common.{ℕ, List, [], Some, None, take, not, subst, ap, refl, arith}
 use Rattle.rad_outside.specs.declared.crew.Kit.{Kit}
 use Rattle.rad_outside.specs.declared.wire.Heard.TheVariants as heard
-use Rattle.rad_core.specs.declared.entry.Entry.{Entry}
-use Rattle.rad_site.specs.declared.fault.BuildFault.{BuildFault}
 use Rattle.radiusd.specs.declared.left.Left.TheVariants as leaving
-use Rattle.rad_site.specs.Site.{Site}
 use Rattle.radiusd.specs.Told.{KitTells}
 use Rattle.radiusd.specs.History.{state_after}
 use Rattle.radiusd.specs.Leaving.{HearsLast}
-use Rattle.radiusd.specs.Serving.{Serves, GoesOn}
+use Rattle.radiusd.specs.Serving.{Serves}
 use Rattle.rad_outside.proofs.Tellings.{Tells-weaker}
 use Rattle.radiusd.proofs.Leavings.{unasked}
 use Rattle.radiusd.proofs.Passes.{open_after, goes_on_idly, goes_on_still, goes_on_served, goes_on_look, goes_on_stop}

@@ -1,4 +1,4 @@
-use Rattle.std.proofs.Common.{◌≡◌, ◌⊎◌, ◌∙◌, List, [], Some, None, Err, map, string_bytes, refl, inl, inr, sym, ap, subst, append-nil}
+use Rattle.std.proofs.Common.{◌≡◌, ◌⊎◌, ◌∙◌, List, [], Some, Err, map, string_bytes, refl, inl, inr, sym, ap, subst, append-nil}
 use Rattle.rad_outside.specs.declared.crew.Kit.{Kit}
 use Rattle.rad_outside.specs.Telling.{Rose}
 use Rattle.radiusd.specs.declared.order.Task.TheVariants.{Check, Serve}

@@ -1,4 +1,4 @@
-use Rattle.std.proofs.Common.{ℕ, List, ap, sym, ◌∙◌, subst}
+use Rattle.std.proofs.Common.{ℕ, List, sym, ◌∙◌, subst}
 use Rattle.rad_turn.specs.Sides.{view}
 use Rattle.rad_core.specs.declared.started.Started.{Started}
 use Rattle.rad_core.specs.declared.entry.Entry.{Entry}

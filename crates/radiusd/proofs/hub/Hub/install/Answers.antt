@@ -1,19 +1,16 @@
-use Rattle.std.proofs.Common.{ℕ, ◌≡◌, ◌<◌, ◌^◌, List, length, Bool, Result, Ok, refl, ap, sym, ◌∙◌, subst}
+use Rattle.std.proofs.Common.{◌≡◌, ◌<◌, ◌^◌, List, length, Bool, Result, Ok, ap, sym, ◌∙◌, subst}
 use Rattle.std.specs.Arc.{arc_value}
 use Rattle.rad_turn.specs.Sides.{view}
-use Rattle.rad_core.specs.State.{ServerState}
 use Rattle.rad_core.specs.declared.entry.Entry.{Entry}
 use Rattle.rad_core.specs.declared.entry.Entry.TheVariants.{Install}
-use Rattle.rad_core.specs.Behind.{TurnAdds}
 use Rattle.rad_site.specs.declared.fault.BuildFault.{BuildFault}
 use Rattle.rad_site.specs.Site.{Site}
-use Rattle.rad_site.specs.Meaning.{site_meaning}
 use Rattle.radiusd.specs.declared.counts.Tally.{Tally}
 use Rattle.radiusd.specs.Counting.{tally_of, with_load}
 use Rattle.radiusd.specs.HubSeen.{HubSeen}
 use Rattle.radiusd.specs.History.{Installs}
 use Rattle.radiusd.proofs.Tallies.{tally_load}
-use Rattle.radiusd.proofs.Kept.{grows, stepped, kept_one}
+use Rattle.radiusd.proofs.Kept.{grows, kept_one}
 use Rattle.radiusd.proofs.Installs.{installs, install_leaves}
 use Rattle.radiusd.proofs.hub.Hub.install.Goals as goal
 
