@@ -1,6 +1,6 @@
-//! Worked examples of the readers of whole files: dictionaries with what they include, a site's configuration, and
-//! users files with what the module `files` does by them, each as its reader gives it and as a file of cases says.
-//! The program has no model and no contracts: it compares and counts. Nothing stands above it.
+//! Worked examples of the readers of whole files: dictionaries with what they include, and a site's configuration, each
+//! as its reader gives it and as a file of cases says. The program has no model and no contracts: it compares and
+//! counts. Nothing stands above it.
 #![tactic(auto)]
 
 mod base_look_ups;
@@ -8,21 +8,13 @@ mod configurations;
 mod dictionaries;
 mod faults;
 mod given_files;
-mod matches;
 mod questions;
-mod requests;
-mod runs;
 mod trees;
 mod turns;
-mod users_files;
-mod values;
 
 use crate::base_look_ups::BaseCases;
 use crate::configurations::{ConfCases, ConfPathCases, ConfTextCases};
 use crate::dictionaries::{DictionaryCases, DictionaryLineCases};
-use crate::matches::{MatchCases, MeetCases};
-use crate::runs::RunCases;
-use crate::users_files::{FilterTextCases, UsersCases, UsersTextCases};
 use shared_cases::{Form, Tally};
 use std::process::ExitCode;
 
@@ -31,11 +23,9 @@ fn main(rt: HostRuntime) -> ExitCode {
     let mut tally = Tally::new(rt.alloc());
     judge_dictionaries(rt, &mut tally);
     judge_configurations(rt, &mut tally);
-    judge_users(rt, &mut tally);
     let mut wrong = Tally::new(rt.alloc());
     judge_wrong_dictionaries(rt, &mut wrong);
     judge_wrong_configurations(rt, &mut wrong);
-    judge_wrong_users(rt, &mut wrong);
     tally.finish(&rt, &wrong)
 }
 
@@ -62,16 +52,6 @@ fn judge_configurations(rt: HostRuntime, tally: &mut Tally) {
     tally.judge_file(rt, &mut ConfCases, Form::Blocks, "conf_files.cases");
 }
 
-fn judge_users(rt: HostRuntime, tally: &mut Tally) {
-    tally.judge_file(rt, &mut UsersTextCases, Form::Rows, "users_texts.cases");
-    tally.judge_file(rt, &mut UsersCases, Form::Blocks, "users_entries.cases");
-    tally.judge_file(rt, &mut RunCases, Form::Blocks, "users_runs.cases");
-    tally.judge_file(rt, &mut MatchCases, Form::Blocks, "users_matches.cases");
-    let filters = "filter_texts.cases";
-    tally.judge_file(rt, &mut FilterTextCases, Form::Rows, filters);
-    tally.judge_file(rt, &mut MeetCases, Form::Blocks, "filter_values.cases");
-}
-
 fn judge_wrong_dictionaries(rt: HostRuntime, wrong: &mut Tally) {
     wrong.judge_file(rt, &mut BaseCases, Form::Rows, "wrong_look_ups.cases");
     wrong.judge_file(
@@ -88,22 +68,4 @@ fn judge_wrong_configurations(rt: HostRuntime, wrong: &mut Tally) {
     wrong.judge_file(rt, &mut ConfTextCases, Form::Rows, "wrong_conf.cases");
     wrong.judge_file(rt, &mut ConfPathCases, Form::Rows, "wrong_paths.cases");
     wrong.judge_file(rt, &mut ConfCases, Form::Blocks, "wrong_conf_files.cases");
-}
-
-fn judge_wrong_users(rt: HostRuntime, wrong: &mut Tally) {
-    wrong.judge_file(
-        rt,
-        &mut UsersTextCases,
-        Form::Rows,
-        "wrong_users_texts.cases",
-    );
-    wrong.judge_file(
-        rt,
-        &mut UsersCases,
-        Form::Blocks,
-        "wrong_users_entries.cases",
-    );
-    wrong.judge_file(rt, &mut RunCases, Form::Blocks, "wrong_users_runs.cases");
-    let matches = "wrong_users_matches.cases";
-    wrong.judge_file(rt, &mut MatchCases, Form::Blocks, matches);
 }

@@ -1,11 +1,11 @@
 //! Which items and entries of users files match.
 
-use crate::given_files::one_file;
 use crate::requests::scope_of;
 use crate::users_files::{filter_in, users_fault, users_in};
 use mod_users::Users;
 use rad_dict::Dict;
-use rad_outside::NoMemory;
+use rad_edge::MemFiles;
+use rad_outside::{NoMemory, Octets};
 use rad_pairs::read_pairs;
 use rad_value::Scope;
 use shared_cases::{Case, Subject};
@@ -46,11 +46,21 @@ fn dictionary_of(alloc: Global, case: &Case) -> Result<Dict, NoMemory> {
     let Some(text) = case.find(b"dictionary") else {
         return Dict::base(alloc);
     };
-    let mut files = one_file(alloc, b"etc/dictionary", text)?;
+    let mut files = dictionary_file(alloc, text)?;
     match Dict::read(alloc, &mut files, "etc/dictionary") {
         Ok(dict) => Ok(dict),
         Err(_) => Dict::base(alloc),
     }
+}
+
+/// The file `etc/dictionary` alone, which holds this text.
+fn dictionary_file(alloc: Global, text: &[u8]) -> Result<MemFiles, NoMemory> {
+    let path = Octets::of(alloc, b"etc/dictionary")?;
+    let mut map = Vec::new(alloc);
+    map.push((path, Octets::of(alloc, text)?))?;
+    let mut maps = Vec::new(alloc);
+    maps.push(map)?;
+    Ok(MemFiles::new(maps, Vec::new(alloc)))
 }
 
 /// `yes` or `no` for each check item of the first entry, and for the entry.
