@@ -9,12 +9,12 @@ use Rattle.rad_dict.specs.Definitions.{Definitions}
 use Rattle.unlang_xlat.specs.declared.part.Part.{Part}
 use Rattle.unlang_xlat.specs.Texts.{expanded}
 use Rattle.mod_base.specs.Situation.{Situation}
-use Rattle.mod_users.specs.declared.row.Row.{Row}
+use Rattle.mod_users.specs.declared.entry.Entry.{Entry}
 use Rattle.mod_users.specs.declared.files.FilesModule.{FilesModule}
 use Rattle.mod_users.specs.Files.{files_done, frame}
 
 -- The users of a module.
-abbrev pub users_of : FilesModule → List Row
+abbrev pub users_of : FilesModule → List Entry
 users_of m = m.users
 
 -- The key of a module.
