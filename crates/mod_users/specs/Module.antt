@@ -21,6 +21,10 @@ users_of m = m.users
 abbrev pub key_of : FilesModule → List Part
 key_of m = m.key
 
+-- The module of users and of a key.
+abbrev pub module_by : List Entry → List Part → FilesModule
+module_by users key = record { users = users; key = key }
+
 -- It has a method for authorize alone.
 abbrev pub methods_of : List Bool
 methods_of = true ∷ false ∷ false ∷ false ∷ false ∷ false ∷ []
