@@ -162,11 +162,7 @@ fn regex_at(regexes: &[Option<Regex>], n: usize) -> Option<&Regex>
 }
 
 /// The compiled pattern of the item of this place, where it has one.
-fn pattern_at<'a>(
-    _items: &ItemList,
-    regexes: &'a [Option<Regex>],
-    n: usize,
-) -> Option<&'a Regex>
+fn pattern_at<'a>(_items: &ItemList, regexes: &'a [Option<Regex>], n: usize) -> Option<&'a Regex>
     requires { AreReady _items.now regexes.now }
     ensures { IfSome (slice_get _items.now n) (λ item. IsReady (pattern_of item) (option_copied result)) }
 {
