@@ -1,6 +1,7 @@
 pub mod Walks
 pub mod ItemTurns
 pub mod ReadingLemmas
+pub mod Compiled
 pub mod RowLemmas
 pub mod Trials
 pub mod Outcomes

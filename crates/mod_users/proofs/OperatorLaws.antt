@@ -11,7 +11,6 @@ use Rattle.rad_value.specs.Edit.{is_full, lists_edited, tried}
 use Rattle.rad_dict.specs.Definitions.{Definitions}
 use Rattle.rad_pairs.specs.declared.items.Item.{Item}
 use Rattle.mod_users.specs.declared.entry.Entry.{Entry}
-use Rattle.mod_users.specs.declared.row.Row.{Row}
 use Rattle.mod_users.specs.Fits.{fits}
 use Rattle.mod_users.specs.Files.{is_fall_through, edit_op, edits_of, entry_edits, all_edits, all_tried, falls_through, entries, done_by, files_done}
 
@@ -63,42 +62,42 @@ all_elsewhere : (es : List Entry) → AreElsewhere (all_edits es)
 all_elsewhere [] = tt
 all_elsewhere (entry ∷ es) = both_elsewhere (entry_edits entry) (all_edits es) (entry_elsewhere entry) (all_elsewhere es)
 
-pub files_keep_requests : (rows : List Row) (key : List ℕ) (dict : Definitions) (lists : PairLists) → (files_done rows key dict lists).0.request ≡ lists.request
+pub files_keep_requests : (rows : List Entry) (key : List ℕ) (dict : Definitions) (lists : PairLists) → (files_done rows key dict lists).0.request ≡ lists.request
 unfolding files_done
 files_keep_requests rows key dict lists = request_stays (all_edits (entries rows key dict lists)) lists (all_elsewhere (entries rows key dict lists))
 
 -- ---- entries that decide, and entries that don't match
 
 module _ (key : List ℕ) (dict : Definitions) where
-  abbrev after : Row → PairLists → PairLists
-  after row lists = (all_tried lists (entry_edits row.entry)).0
+  abbrev after : Entry → PairLists → PairLists
+  after entry lists = (all_tried lists (entry_edits entry)).0
 
-  -- the same entries behind a row, whatever it says
-  same_behind : (row : Row) (xs ys : List Row) (lists : PairLists) → ((more : PairLists) → more.request ≡ lists.request → entries xs key dict more ≡ entries ys key dict more)
-      → entries (row ∷ xs) key dict lists ≡ entries (row ∷ ys) key dict lists
-  same_behind row xs ys lists same =
-      elim (fits row key lists.request dict) as (λ b. cond b (row.entry ∷ cond (falls_through row.entry) (entries xs key dict (after row lists)) []) (entries xs key dict lists)
-      ≡ cond b (row.entry ∷ cond (falls_through row.entry) (entries ys key dict (after row lists)) []) (entries ys key dict lists)) [
-        | true ↦ ap (λ (es : List Entry). row.entry ∷ cond (falls_through row.entry) es []) (same (after row lists) (request_stays (entry_edits row.entry) lists (entry_elsewhere row.entry)))
+  -- the same entries behind a entry, whatever it says
+  same_behind : (entry : Entry) (xs ys : List Entry) (lists : PairLists) → ((more : PairLists) → more.request ≡ lists.request → entries xs key dict more ≡ entries ys key dict more)
+      → entries (entry ∷ xs) key dict lists ≡ entries (entry ∷ ys) key dict lists
+  same_behind entry xs ys lists same =
+      elim (fits entry key lists.request dict) as (λ b. cond b (entry ∷ cond (falls_through entry) (entries xs key dict (after entry lists)) []) (entries xs key dict lists)
+      ≡ cond b (entry ∷ cond (falls_through entry) (entries ys key dict (after entry lists)) []) (entries ys key dict lists)) [
+        | true ↦ ap (λ (es : List Entry). entry ∷ cond (falls_through entry) es []) (same (after entry lists) (request_stays (entry_edits entry) lists (entry_elsewhere entry)))
         | false ↦ same lists refl
       ]
 
-  decided : (front rest : List Row) (row : Row) (lists : PairLists) → fits row key lists.request dict ≡ true → falls_through row.entry ≡ false
-      → entries (front ++ row ∷ rest) key dict lists ≡ entries (front ++ row ∷ []) key dict lists
-  decided [] rest row lists e f = rw (e, f) refl
-  decided (one ∷ front) rest row lists e f = same_behind one (front ++ row ∷ rest) (front ++ row ∷ []) lists
-      (λ more same. decided front rest row more (ap (λ pairs. fits row key pairs dict) same ∙ e) f)
+  decided : (front rest : List Entry) (entry : Entry) (lists : PairLists) → fits entry key lists.request dict ≡ true → falls_through entry ≡ false
+      → entries (front ++ entry ∷ rest) key dict lists ≡ entries (front ++ entry ∷ []) key dict lists
+  decided [] rest entry lists e f = rw (e, f) refl
+  decided (one ∷ front) rest entry lists e f = same_behind one (front ++ entry ∷ rest) (front ++ entry ∷ []) lists
+      (λ more same. decided front rest entry more (ap (λ pairs. fits entry key pairs dict) same ∙ e) f)
 
-  passed : (front rest : List Row) (row : Row) (lists : PairLists) → fits row key lists.request dict ≡ false → entries (front ++ row ∷ rest) key dict lists ≡ entries (front ++ rest) key dict lists
-  passed [] rest row lists e = rw e refl
-  passed (one ∷ front) rest row lists e = same_behind one (front ++ row ∷ rest) (front ++ rest) lists
-      (λ more same. passed front rest row more (ap (λ pairs. fits row key pairs dict) same ∙ e))
+  passed : (front rest : List Entry) (entry : Entry) (lists : PairLists) → fits entry key lists.request dict ≡ false → entries (front ++ entry ∷ rest) key dict lists ≡ entries (front ++ rest) key dict lists
+  passed [] rest entry lists e = rw e refl
+  passed (one ∷ front) rest entry lists e = same_behind one (front ++ entry ∷ rest) (front ++ rest) lists
+      (λ more same. passed front rest entry more (ap (λ pairs. fits entry key pairs dict) same ∙ e))
 
-  pub files_decided : (front rest : List Row) (row : Row) (lists : PairLists) → fits row key lists.request dict ≡ true → falls_through row.entry ≡ false
-      → files_done (front ++ row ∷ rest) key dict lists ≡ files_done (front ++ row ∷ []) key dict lists
+  pub files_decided : (front rest : List Entry) (entry : Entry) (lists : PairLists) → fits entry key lists.request dict ≡ true → falls_through entry ≡ false
+      → files_done (front ++ entry ∷ rest) key dict lists ≡ files_done (front ++ entry ∷ []) key dict lists
   unfolding files_done
-  files_decided front rest row lists e f = ap (λ es. done_by false es lists) (decided front rest row lists e f)
+  files_decided front rest entry lists e f = ap (λ es. done_by false es lists) (decided front rest entry lists e f)
 
-  pub files_passed : (front rest : List Row) (row : Row) (lists : PairLists) → fits row key lists.request dict ≡ false → files_done (front ++ row ∷ rest) key dict lists ≡ files_done (front ++ rest) key dict lists
+  pub files_passed : (front rest : List Entry) (entry : Entry) (lists : PairLists) → fits entry key lists.request dict ≡ false → files_done (front ++ entry ∷ rest) key dict lists ≡ files_done (front ++ rest) key dict lists
   unfolding files_done
-  files_passed front rest row lists e = ap (λ es. done_by false es lists) (passed front rest row lists e)
+  files_passed front rest entry lists e = ap (λ es. done_by false es lists) (passed front rest entry lists e)

@@ -24,7 +24,6 @@ use Rattle.rad_pairs.specs.declared.items.Item.{Item}
 use Rattle.rad_pairs.specs.declared.items.PairOp.{PairOp}
 use Rattle.rad_pairs.specs.declared.items.PairOp.TheVariants as op
 use Rattle.mod_users.specs.declared.entry.Entry.{Entry}
-use Rattle.mod_users.specs.declared.row.Row.{Row}
 use Rattle.mod_users.specs.Fits.{fits}
 
 -- The internal attribute Fall-Through.
@@ -114,12 +113,12 @@ all_tried lists (edit ∷ edits) = elim (tried lists edit) [
 
 -- The entries of a users file that match a request of this key, each tried in the lists that those before it left, up to the
 -- first without `Fall-Through = Yes`.
-abbrev pub entries : List Row → List ℕ → Definitions → PairLists → List Entry
+abbrev pub entries : List Entry → List ℕ → Definitions → PairLists → List Entry
 entries [] key dict lists = []
-entries (row ∷ rows) key dict lists =
-    if fits row key lists.request dict
-    then row.entry ∷ (if falls_through row.entry then entries rows key dict (all_tried lists (entry_edits row.entry)).0 else [])
-    else entries rows key dict lists
+entries (entry ∷ users) key dict lists =
+    if fits entry key lists.request dict
+    then entry ∷ (if falls_through entry then entries users key dict (all_tried lists (entry_edits entry)).0 else [])
+    else entries users key dict lists
 
 -- The code of a run in which an entry matched or not, and all edits were done or not.
 abbrev pub code_of : Bool → Bool → Code
@@ -138,12 +137,12 @@ done_by found matched lists =
     ((all_tried lists (all_edits matched)).0, code_of (found || has_any matched) (all_tried lists (all_edits matched)).1)
 
 -- The same after the entries that match.
-abbrev pub outcome : Bool → List Row → List ℕ → Definitions → PairLists → PairLists × Code
-outcome found rows key dict lists = done_by found (entries rows key dict lists) lists
+abbrev pub outcome : Bool → List Entry → List ℕ → Definitions → PairLists → PairLists × Code
+outcome found users key dict lists = done_by found (entries users key dict lists) lists
 
 -- The lists and the code that the module `files` makes of these lists, with these users, for this key.
-unfoldable pub files_done : List Row → List ℕ → Definitions → PairLists → PairLists × Code
-files_done rows key dict lists = outcome false rows key dict lists
+unfoldable pub files_done : List Entry → List ℕ → Definitions → PairLists → PairLists × Code
+files_done users key dict lists = outcome false users key dict lists
 
 -- Whether two lists are the same.
 abbrev pub same_list : ListName → ListName → Bool
@@ -162,9 +161,9 @@ abbrev pub edits_that : ListName → AttrId → Edit → Bool
 edits_that list attr edit = same_list edit.list list && same_attr edit.attr attr
 
 -- An entry edits this attribute of this list.
-abbrev pub row_edits : ListName → AttrId → Row → Bool
-row_edits list attr row = list_any (edits_that list attr) (entry_edits row.entry)
+abbrev pub entry_edits_that : ListName → AttrId → Entry → Bool
+entry_edits_that list attr entry = list_any (edits_that list attr) (entry_edits entry)
 
 -- The frame of the module: the control items of its check items, and the reply items of its replies.
-unfoldable pub frame : List Row → ListName → AttrId → Bool
-frame rows list attr = list_any (row_edits list attr) rows
+unfoldable pub frame : List Entry → ListName → AttrId → Bool
+frame users list attr = list_any (entry_edits_that list attr) users

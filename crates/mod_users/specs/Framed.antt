@@ -22,10 +22,10 @@ use Rattle.mod_base.specs.Situation.{Situation}
 use Rattle.mod_base.specs.Meaning.{outside, IsLawful}
 use Rattle.mod_base.proofs.Frames.{filter_within}
 use Rattle.unlang_xlat.specs.Texts.{expanded}
-use Rattle.mod_users.specs.declared.row.Row.{Row}
+use Rattle.mod_users.specs.declared.entry.Entry.{Entry}
 use Rattle.mod_users.specs.declared.files.FilesModule.{FilesModule}
 use Rattle.mod_users.specs.Fits.{fits}
-use Rattle.mod_users.specs.Files.{entry_edits, all_edits, all_tried, falls_through, entries, files_done, same_list, edits_that, row_edits, frame}
+use Rattle.mod_users.specs.Files.{entry_edits, all_edits, all_tried, falls_through, entries, files_done, same_list, edits_that, entry_edits_that, frame}
 use Rattle.mod_users.specs.Module.{users_of, key_of, edits, does}
 
 module _ (within : ListName → AttrId → Bool) where
@@ -76,19 +76,19 @@ module _ (within : ListName → AttrId → Bool) where
   kept_both [] ys first second = second
   kept_both (x ∷ xs) ys first second = (first.0, kept_both xs ys first.1 second)
 
-  abbrev RowKept : Row → Type 0
-  RowKept row = AreKept (entry_edits row.entry)
+  abbrev EntryKept : Entry → Type 0
+  EntryKept entry = AreKept (entry_edits entry)
 
-  by_match : (row : Row) (rows : List Row) (key : List ℕ) (dict : Definitions) (lists : PairLists) (matches through : Bool) → RowKept row → ((more : PairLists) → AreKept (all_edits (entries rows key dict more)))
-      → AreKept (all_edits (cond matches (row.entry ∷ cond through (entries rows key dict (all_tried lists (entry_edits row.entry)).0) []) (entries rows key dict lists)))
-  by_match row rows key dict lists true true kept rest = kept_both (entry_edits row.entry) (all_edits (entries rows key dict (all_tried lists (entry_edits row.entry)).0)) kept (rest (all_tried lists (entry_edits row.entry)).0)
-  by_match row rows key dict lists true false kept rest = kept_both (entry_edits row.entry) [] kept tt
-  by_match row rows key dict lists false through kept rest = rest lists
+  by_match : (entry : Entry) (rows : List Entry) (key : List ℕ) (dict : Definitions) (lists : PairLists) (matches through : Bool) → EntryKept entry → ((more : PairLists) → AreKept (all_edits (entries rows key dict more)))
+      → AreKept (all_edits (cond matches (entry ∷ cond through (entries rows key dict (all_tried lists (entry_edits entry)).0) []) (entries rows key dict lists)))
+  by_match entry rows key dict lists true true kept rest = kept_both (entry_edits entry) (all_edits (entries rows key dict (all_tried lists (entry_edits entry)).0)) kept (rest (all_tried lists (entry_edits entry)).0)
+  by_match entry rows key dict lists true false kept rest = kept_both (entry_edits entry) [] kept tt
+  by_match entry rows key dict lists false through kept rest = rest lists
 
-  entries_kept : (rows : List Row) (key : List ℕ) (dict : Definitions) (lists : PairLists) → AllByRecursion RowKept rows → AreKept (all_edits (entries rows key dict lists))
+  entries_kept : (rows : List Entry) (key : List ℕ) (dict : Definitions) (lists : PairLists) → AllByRecursion EntryKept rows → AreKept (all_edits (entries rows key dict lists))
   entries_kept [] key dict lists kept = tt
-  entries_kept (row ∷ rows) key dict lists kept =
-      by_match row rows key dict lists (fits row key lists.request dict) (falls_through row.entry) kept.0 (λ more. entries_kept rows key dict more kept.1)
+  entries_kept (entry ∷ rows) key dict lists kept =
+      by_match entry rows key dict lists (fits entry key lists.request dict) (falls_through entry) kept.0 (λ more. entries_kept rows key dict more kept.1)
 
 own_list : (list : ListName) (b : Bool) → b ≡ true → (same_list list list && b) ≡ true
 own_list Request b e = e
@@ -113,15 +113,15 @@ own_edits within (edit ∷ es) wide = (
   own_edits within es (λ list attr e. wide list attr (from_second (edits_that list attr edit) (list_any (edits_that list attr) es) e)),
 )
 
-own_rows : (within : ListName → AttrId → Bool) (rows : List Row) → ((list : ListName) (attr : AttrId) → list_any (row_edits list attr) rows ≡ true → within list attr ≡ true) → AllByRecursion (RowKept within) rows
+own_rows : (within : ListName → AttrId → Bool) (rows : List Entry) → ((list : ListName) (attr : AttrId) → list_any (entry_edits_that list attr) rows ≡ true → within list attr ≡ true) → AllByRecursion (EntryKept within) rows
 own_rows within [] wide = tt
-own_rows within (row ∷ rows) wide = (
-  own_edits within (entry_edits row.entry) (λ list attr e. wide list attr (from_first (row_edits list attr row) (list_any (row_edits list attr) rows) e)),
-  own_rows within rows (λ list attr e. wide list attr (from_second (row_edits list attr row) (list_any (row_edits list attr) rows) e)),
+own_rows within (entry ∷ rows) wide = (
+  own_edits within (entry_edits entry) (λ list attr e. wide list attr (from_first (entry_edits_that list attr entry) (list_any (entry_edits_that list attr) rows) e)),
+  own_rows within rows (λ list attr e. wide list attr (from_second (entry_edits_that list attr entry) (list_any (entry_edits_that list attr) rows) e)),
 )
 
 -- What the users leave outside of their frame.
-pub frame_kept : (rows : List Row) (key : List ℕ) (dict : Definitions) (lists : PairLists) (list : ListName) → outside (frame rows) list (files_done rows key dict lists).0 ≡ outside (frame rows) list lists
+pub frame_kept : (rows : List Entry) (key : List ℕ) (dict : Definitions) (lists : PairLists) (list : ListName) → outside (frame rows) list (files_done rows key dict lists).0 ≡ outside (frame rows) list lists
 unfolding files_done frame
 frame_kept rows key dict lists list =
     let within = frame rows in

@@ -9,17 +9,21 @@ use Rattle.rad_dict.specs.Definitions.{Definitions}
 use Rattle.unlang_xlat.specs.declared.part.Part.{Part}
 use Rattle.unlang_xlat.specs.Texts.{expanded}
 use Rattle.mod_base.specs.Situation.{Situation}
-use Rattle.mod_users.specs.declared.row.Row.{Row}
+use Rattle.mod_users.specs.declared.entry.Entry.{Entry}
 use Rattle.mod_users.specs.declared.files.FilesModule.{FilesModule}
 use Rattle.mod_users.specs.Files.{files_done, frame}
 
 -- The users of a module.
-abbrev pub users_of : FilesModule → List Row
+abbrev pub users_of : FilesModule → List Entry
 users_of m = m.users
 
 -- The key of a module.
 abbrev pub key_of : FilesModule → List Part
 key_of m = m.key
+
+-- The module of users and of a key.
+abbrev pub module_by : List Entry → List Part → FilesModule
+module_by users key = record { users = users; key = key }
 
 -- It has a method for authorize alone.
 abbrev pub methods_of : List Bool

@@ -1,5 +1,5 @@
 -- Entries with their patterns compiled, and the first pattern of a users file that is refused. This project's own.
-use Rattle.std.specs.Prelude.{◌≡◌, ◌⊎◌, ℕ, List, [], ◌∷◌, ◌++◌, map, Option, Some}
+use Rattle.std.specs.Prelude.{◌≡◌, ℕ, slice_get, unwrap_or, List, [], ◌∷◌, ◌++◌, map, Option, Some, None, if◌then◌else◌}
 use Rattle.std.specs.List.{AllByRecursion}
 use Rattle.regex.specs.declared.bytes.regex.Regex.{Regex}
 use Rattle.rad_text.specs.declared.spots.Spot.{Spot}
@@ -10,7 +10,11 @@ use Rattle.mod_users.specs.declared.placed.Placed.{Placed}
 use Rattle.mod_users.specs.declared.draft.Draft.{Draft}
 use Rattle.mod_users.specs.declared.entry.Entry.{Entry}
 use Rattle.mod_users.specs.declared.row.Row.{Row}
-use Rattle.mod_users.specs.Patterns.{pattern_of, IsRefused, IsReady}
+use Rattle.mod_users.specs.Patterns.{pattern_of, is_refused, IsReady}
+
+-- The compiled pattern of this place, where there is one.
+abbrev pub regex_at : List (Option Regex) → ℕ → Option Regex
+regex_at regexes n = unwrap_or (slice_get regexes n) None
 
 -- Items without their spots.
 abbrev pub items_in : List Placed → List Item
@@ -58,29 +62,21 @@ abbrev pub all_placed : List Draft → List Placed
 all_placed [] = []
 all_placed (draft ∷ drafts) = placed_in draft ++ all_placed drafts
 
--- An item has no pattern, or one that is accepted.
-abbrev pub IsAccepted : Placed → Type 0
-IsAccepted placed = (regex : Option Regex) × IsReady (pattern_of placed.item) regex
+-- The spot of the first of these items whose pattern is refused.
+abbrev pub first_refused : List Placed → Option Spot
+first_refused [] = None
+first_refused (placed ∷ others) = if is_refused (pattern_of placed.item) then Some placed.spot else first_refused others
 
--- An item's pattern is refused at a spot.
-abbrev pub IsRefusedAt : Placed → Spot → Type 0
-IsRefusedAt placed spot = (source : List ℕ) × (pattern_of placed.item ≡ Some source) × IsRefused source × (spot ≡ placed.spot)
-
--- The first of these items whose pattern is refused has this spot.
-abbrev pub IsFirstRefused : List Placed → Spot → Type 0
-IsFirstRefused [] spot = ⊥
-IsFirstRefused (placed ∷ others) spot = IsRefusedAt placed spot ⊎ (IsAccepted placed × IsFirstRefused others spot)
-
--- All of these items' patterns are accepted.
-abbrev pub AreAccepted : List Placed → Type 0
-AreAccepted placed = AllByRecursion IsAccepted placed
-
--- An error says that a pattern is refused; want of memory says nothing of it.
-abbrev pub RefusedBy : ReadError Spot → Placed → Type 0
-RefusedBy errors.NoMemory placed = Unit {0}
-RefusedBy (errors.Wrong spot) placed = IsRefusedAt placed spot
-
--- The same of the first of these items.
+-- An error says which of these items' patterns is refused first; want of memory says nothing.
 abbrev pub RefusedIn : ReadError Spot → List Placed → Type 0
 RefusedIn errors.NoMemory placed = Unit {0}
-RefusedIn (errors.Wrong spot) placed = IsFirstRefused placed spot
+RefusedIn (errors.Wrong spot) placed = first_refused placed ≡ Some spot
+
+-- The patterns of an entry's items are compiled.
+pub record IsReadyRow (row : Row) : Type 0 where
+  pub checks : AreReady row.entry.checks row.checks.items
+  pub replies : AreReady row.entry.replies row.replies.items
+
+-- So are those of all entries.
+abbrev pub AreReadyRows : List Row → Type 0
+AreReadyRows rows = AllByRecursion IsReadyRow rows

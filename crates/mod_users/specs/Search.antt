@@ -4,6 +4,7 @@ use Rattle.std.specs.Prelude.{ℕ, ◌+◌, ◌*◌, ◌^◌, ◌%◌, Bool, tru
 use Rattle.rad_words.specs.declared.codes.Code.TheVariants as code
 use Rattle.rad_value.specs.PairLists.{PairLists}
 use Rattle.rad_dict.specs.Definitions.{Definitions}
+use Rattle.mod_users.specs.declared.entry.Entry.{Entry}
 use Rattle.mod_users.specs.declared.row.Row.{Row}
 use Rattle.mod_users.specs.declared.search.Next.{Next}
 use Rattle.mod_users.specs.declared.search.Next.TheVariants as next
@@ -24,8 +25,12 @@ abbrev pub name_key : List ℕ → ℕ
 name_key name = octets_key 0 name
 
 -- The key of an entry's name.
+abbrev pub entry_key : Entry → ℕ
+entry_key entry = name_key entry.name
+
+-- The same of an entry with its patterns.
 abbrev pub row_key : Row → ℕ
-row_key row = name_key row.entry.name
+row_key row = entry_key row.entry
 
 -- The key of the name DEFAULT.
 abbrev pub default_key : ℕ
@@ -40,13 +45,13 @@ next_place (x ∷ xs) (y ∷ ys) =
     if nat_lt x y then Some (x, xs, y ∷ ys) else (if nat_lt y x then Some (y, x ∷ xs, ys) else Some (x, xs, ys))
 
 -- What comes behind an entry that matched: all its edits were done, or a list was full.
-abbrev pub after_entry : Row → PairLists × Bool → PairLists × Next
-after_entry row after = elim after.1 [
-  | true ↦ (after.0, if falls_through row.entry then next.Through else next.Ends code.Ok)
+abbrev pub after_entry : Entry → PairLists × Bool → PairLists × Next
+after_entry entry after = elim after.1 [
+  | true ↦ (after.0, if falls_through entry then next.Through else next.Ends code.Ok)
   | false ↦ (after.0, next.Ends code.Fail)
 ]
 
 -- The lists after an entry is tried, and what comes next.
-unfoldable pub row_tried : Row → List ℕ → Definitions → PairLists → PairLists × Next
-row_tried row key dict lists =
-    if fits row key lists.request dict then after_entry row (all_tried lists (entry_edits row.entry)) else (lists, next.Passed)
+unfoldable pub entry_tried : Entry → List ℕ → Definitions → PairLists → PairLists × Next
+entry_tried entry key dict lists =
+    if fits entry key lists.request dict then after_entry entry (all_tried lists (entry_edits entry)) else (lists, next.Passed)

@@ -25,12 +25,11 @@ pub struct FilesModule {
 
 impl FilesModule {
     ghost use Rattle.std.specs.Prelude.{◌≡◌};
-    ghost use Rattle.mod_users.specs.Module.{users_of, key_of, authorized};
+    ghost use Rattle.mod_users.specs.Module.{module_by, authorized};
 
     /// The module of users, which `Users::read` gave, and of a key.
     pub fn new(users: Users, key: Xlat) -> FilesModule
-        ensures users { users_of result ≡ users }
-        ensures key { key_of result ≡ key }
+        ensures { result ≡ module_by users key }
     {
         FilesModule { users, key }
     }

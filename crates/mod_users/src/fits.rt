@@ -1,13 +1,14 @@
 //! Whether items match.
 
-ghost use Rattle.std.specs.Prelude.{◌≡◌, IfOk, slice_get, is_some};
-ghost use Rattle.std.specs.Option.{option_copied, option_map_or};
+ghost use Rattle.std.specs.Prelude.{◌≡◌, IfOk, IfSome, slice_get, is_some};
+ghost use Rattle.std.specs.Option.{option_copied};
 ghost use Rattle.std.specs.List.{list_any};
-ghost use Rattle.regex.specs.Patterns.{find};
-ghost use Rattle.regex.specs.Bytes.{regex_pattern};
+ghost use Rattle.regex.specs.Bytes.{regex_source};
 ghost use Rattle.rad_value.specs.Pairs.{first_value};
 ghost use Rattle.rad_pairs.specs.ValueText.{plain_text};
-ghost use Rattle.mod_users.specs.Fits.{compares, matches, misses, is_met, first_meets, is_equal_to, is_fit, regex_at, are_fit, is_for, fits, check_fits, reply_met};
+ghost use Rattle.mod_users.specs.Patterns.{pattern_of, is_found_in, IsCompiled, IsReady};
+ghost use Rattle.mod_users.specs.Rows.{AreReady, IsReadyRow, regex_at};
+ghost use Rattle.mod_users.specs.Fits.{compares, found_by, is_met, first_meets, is_equal_to, is_fit, are_fit, is_for, fits, check_fits, reply_met};
 
 use crate::Entry;
 use crate::row::Row;
@@ -25,20 +26,32 @@ fn compares(cmp: Cmp, item: &Item, value: &Value) -> bool
     compare(value, cmp, &item.value).unwrap_or(false)
 }
 
-/// Whether a pattern matches in the text of a value of an item's attribute.
-fn is_found(
+/// Whether a compiled pattern matches in a text.
+fn is_found(alloc: Global, regex: &Regex, text: &[u8]) -> Result<bool, NoMemory>
+    requires { IsCompiled (regex_source regex.now) regex.now }
+    ensures { IfOk result (λ found. found ≡ is_found_in (regex_source regex.now) text.now) }
+{
+    let mut matcher = regex.matcher(alloc)?;
+    Ok(matcher.is_match(text))
+}
+
+/// Whether the pattern of an item, which is compiled, matches in the text of a value; none where it has no pattern.
+fn found_by(
     alloc: Global,
-    regex: &Regex,
     item: &Item,
+    regex: Option<&Regex>,
     value: &Value,
     dict: &Dict,
-) -> Result<bool, NoMemory>
-    ensures { IfOk result (λ found. found ≡ is_some (find (regex_pattern regex.now) (plain_text item.now.attr value.now dict.now) 0)) }
+) -> Result<Option<bool>, NoMemory>
+    requires { IsReady (pattern_of item.now) (option_copied regex) }
+    ensures { IfOk result (λ found. found ≡ found_by item.now (plain_text item.now.attr value.now dict.now)) }
 {
+    let Some(regex) = regex else {
+        return Ok(None);
+    };
     let mut text = Vec::new(alloc);
     put_plain(alloc, &mut text, item.attr, value, dict)?;
-    let mut matcher = regex.matcher(alloc)?;
-    Ok(matcher.is_match(text.as_slice()))
+    Ok(Some(is_found(alloc, regex, text.as_slice())?))
 }
 
 /// Whether a value meets an item with its pattern, if any.
@@ -49,7 +62,8 @@ pub fn is_met(
     value: &Value,
     dict: &Dict,
 ) -> Result<bool, NoMemory>
-    ensures { IfOk result (λ met. met ≡ is_met item.now.op item.now (option_copied regex.entry) dict.now value.now) }
+    requires { IsReady (pattern_of item.now) (option_copied regex) }
+    ensures { IfOk result (λ met. met ≡ is_met item.now.op item.now dict.now value.now) }
 {
     Ok(match item.op {
         PairOp::Eq | PairOp::Append | PairOp::None => false,
@@ -60,14 +74,8 @@ pub fn is_met(
         PairOp::Le => compares(Cmp::Le, item, value),
         PairOp::Gt => compares(Cmp::Gt, item, value),
         PairOp::Ge => compares(Cmp::Ge, item, value),
-        PairOp::Match => match regex {
-            Some(regex) => is_found(alloc, regex, item, value, dict)?,
-            None => false,
-        },
-        PairOp::NoMatch => match regex {
-            Some(regex) => !is_found(alloc, regex, item, value, dict)?,
-            None => false,
-        },
+        PairOp::Match => found_by(alloc, item, regex, value, dict)?.unwrap_or(false),
+        PairOp::NoMatch => !found_by(alloc, item, regex, value, dict)?.unwrap_or(true),
     })
 }
 
@@ -79,7 +87,8 @@ fn first_meets(
     lists: &Lists,
     dict: &Dict,
 ) -> Result<bool, NoMemory>
-    ensures { IfOk result (λ met. met ≡ first_meets item.now (option_copied regex.entry) lists.now.request dict.now) }
+    requires { IsReady (pattern_of item.now) (option_copied regex) }
+    ensures { IfOk result (λ met. met ≡ first_meets item.now lists.now.request dict.now) }
 {
     match lists.nth(ListName::Request, item.attr, 0) {
         Some(value) => is_met(alloc, item, regex, value, dict),
@@ -124,7 +133,8 @@ pub fn is_fit(
     lists: &Lists,
     dict: &Dict,
 ) -> Result<bool, NoMemory>
-    ensures { IfOk result (λ fit. fit ≡ is_fit item.now.op item.now (option_copied regex.entry) lists.now.request dict.now) }
+    requires { IsReady (pattern_of item.now) (option_copied regex) }
+    ensures { IfOk result (λ fit. fit ≡ is_fit item.now.op item.now lists.now.request dict.now) }
 {
     match item.op {
         PairOp::Eq | PairOp::Set | PairOp::Append => Ok(true),
@@ -141,14 +151,22 @@ pub fn is_fit(
     }
 }
 
-/// The compiled pattern of this place, where there is one.
-pub fn regex_at(regexes: &[Option<Regex>], n: usize) -> Option<&Regex>
+/// What stands at this place among the compiled patterns.
+fn regex_at(regexes: &[Option<Regex>], n: usize) -> Option<&Regex>
     ensures { option_copied result ≡ regex_at regexes.now n }
 {
     match regexes.get(n) {
         Some(Some(regex)) => Some(regex),
         _ => None,
     }
+}
+
+/// The compiled pattern of the item of this place, where it has one.
+fn pattern_at<'a>(_items: &ItemList, regexes: &'a [Option<Regex>], n: usize) -> Option<&'a Regex>
+    requires { AreReady _items.now regexes.now }
+    ensures { IfSome (slice_get _items.now n) (λ item. IsReady (pattern_of item) (option_copied result)) }
+{
+    regex_at(regexes, n)
 }
 
 /// Whether all check items match the request.
@@ -159,13 +177,14 @@ fn are_fit(
     lists: &Lists,
     dict: &Dict,
 ) -> Result<bool, NoMemory>
-    ensures { IfOk result (λ fit. fit ≡ are_fit 0 regexes.now items.now lists.now.request dict.now) }
+    requires { AreReady items.now regexes.now }
+    ensures { IfOk result (λ fit. fit ≡ are_fit items.now lists.now.request dict.now) }
 {
     for n in 0..items.len() {
         let Some(item) = items.get(n) else {
             return Ok(true);
         };
-        if !is_fit(alloc, item, regex_at(regexes, n), lists, dict)? {
+        if !is_fit(alloc, item, pattern_at(items, regexes, n), lists, dict)? {
             return Ok(false);
         }
     }
@@ -189,7 +208,8 @@ pub fn fits(
     lists: &Lists,
     dict: &Dict,
 ) -> Result<bool, NoMemory>
-    ensures { IfOk result (λ fit. fit ≡ fits row.now key.now lists.now.request dict.now) }
+    requires { IsReadyRow row.now }
+    ensures { IfOk result (λ fit. fit ≡ fits row.now.entry key.now lists.now.request dict.now) }
 {
     if !is_for(key, &row.entry) {
         return Ok(false);
@@ -205,13 +225,14 @@ pub fn check_fits(
     lists: &Lists,
     dict: &Dict,
 ) -> Result<bool, NoMemory>
-    ensures { IfOk result (λ fit. fit ≡ check_fits place lists.now.request dict.now row.now) }
+    requires { IsReadyRow row.now }
+    ensures { IfOk result (λ fit. fit ≡ check_fits place lists.now.request dict.now row.now.entry) }
 {
     match row.entry.checks.get(place) {
         Some(item) => is_fit(
             alloc,
             item,
-            regex_at(row.checks.as_slice(), place),
+            pattern_at(&row.entry.checks, row.checks.as_slice(), place),
             lists,
             dict,
         ),
@@ -227,13 +248,14 @@ pub fn reply_met(
     value: &Value,
     dict: &Dict,
 ) -> Result<bool, NoMemory>
-    ensures { IfOk result (λ met. met ≡ reply_met place value.now dict.now row.now) }
+    requires { IsReadyRow row.now }
+    ensures { IfOk result (λ met. met ≡ reply_met place value.now dict.now row.now.entry) }
 {
     match row.entry.replies.get(place) {
         Some(item) => is_met(
             alloc,
             item,
-            regex_at(row.replies.as_slice(), place),
+            pattern_at(&row.entry.replies, row.replies.as_slice(), place),
             value,
             dict,
         ),

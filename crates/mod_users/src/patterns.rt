@@ -34,8 +34,9 @@ fn built(alloc: Global, source: &str) -> Result<Option<Regex>, NoMemory>
 {
     match Regex::new(alloc, source) {
         Ok(regex) => Ok(Some(regex)),
-        Err(Error::OutOfMemory) => Err(NoMemory),
-        Err(_) => Ok(None),
+        Err(Error::Syntax(_)) => Ok(None),
+        // A pattern that would take more than 10 MiB when compiled is want of memory, as is a failed allocation.
+        Err(_) => Err(NoMemory),
     }
 }
 

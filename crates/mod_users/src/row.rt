@@ -2,7 +2,7 @@
 
 ghost use Rattle.std.specs.Prelude.{◌≡◌, ◌++◌, ◌∷◌, [], length, IfOk, OnOk, IfErr};
 ghost use Rattle.mod_users.specs.Patterns.{pattern_of, IsReady};
-ghost use Rattle.mod_users.specs.Rows.{AreReady, IsRowOf, AreRows, RefusedBy, RefusedIn, placed_in, all_placed, IsReadyOf};
+ghost use Rattle.mod_users.specs.Rows.{AreReady, IsRowOf, AreRows, RefusedIn, placed_in, all_placed, IsReadyOf};
 
 use crate::Entry;
 use crate::draft::Draft;
@@ -32,7 +32,7 @@ pub struct Ready {
 /// The pattern of an item, compiled; where it is refused, the spot of the item's value.
 fn regex_of(alloc: Global, item: &Item, spot: Spot) -> Result<Option<Regex>, ReadError<Spot>>
     ensures ready { IfOk result (IsReady (pattern_of item.now)) }
-    ensures refused { IfErr result (λ error. RefusedBy error (record { item = item.now; spot = spot })) }
+    ensures refused { IfErr result (λ error. RefusedIn error (record { item = item.now; spot = spot } ∷ [])) }
 {
     let Some(source) = pattern_of(item) else {
         return Ok(None);

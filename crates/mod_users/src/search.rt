@@ -2,7 +2,8 @@
 
 ghost use Rattle.std.specs.Prelude.{◌≡◌, ◌+◌, ◌<◌, length, map, IfOk, IfSome};
 ghost use Rattle.std.specs.Option.{option_map};
-ghost use Rattle.mod_users.specs.Search.{key_with, octets_key, name_key, row_key, default_key, next_place, row_tried};
+ghost use Rattle.mod_users.specs.Search.{key_with, octets_key, name_key, row_key, default_key, next_place, entry_tried};
+ghost use Rattle.mod_users.specs.Rows.{IsReadyRow};
 
 use crate::edits::{do_entry, falls_through};
 use crate::fits::fits;
@@ -90,7 +91,7 @@ pub fn next_place<'a>(
 }
 
 /// Tries an entry: where it matches, its edits are done.
-#[tactic(auto, unfolding(crate::specs::Search::row_tried))]
+#[tactic(auto, unfolding(crate::specs::Search::entry_tried))]
 pub fn try_row(
     alloc: Global,
     row: &Row,
@@ -98,7 +99,8 @@ pub fn try_row(
     lists: &mut Lists,
     dict: &Dict,
 ) -> Result<Next, NoMemory>
-    ensures { IfOk result (λ next. (lists.new, next) ≡ row_tried row.now key.now dict.now lists.old) }
+    requires { IsReadyRow row.now }
+    ensures { IfOk result (λ next. (lists.new, next) ≡ entry_tried row.now.entry key.now dict.now lists.old) }
 {
     if !fits(alloc, row, key, lists, dict)? {
         return Ok(Next::Passed);

@@ -1,8 +1,9 @@
 //! The users of a users file.
 
-ghost use Rattle.std.specs.Prelude.{◌≡◌, ◌≤◌, length, slice_get, IfOk};
-ghost use Rattle.std.specs.Option.{option_copied};
+ghost use Rattle.std.specs.Prelude.{◌≡◌, ◌≤◌, length, slice_get, IfOk, IfSome};
+ghost use Rattle.std.specs.Option.{option_copied, option_map};
 ghost use Rattle.mod_users.specs.Users.{fault_of};
+ghost use Rattle.mod_users.specs.Rows.{entries_in, IsReadyRow, AreReadyRows};
 
 use crate::draft::Drafts;
 use crate::fault::LineFault;
@@ -31,20 +32,18 @@ pub struct Users {
 
 impl Model for Users {
     ghost use Rattle.std.specs.Prelude.{◌≡◌, List, ◌≤◌, length, map};
-    ghost use Rattle.mod_users.specs.declared.row.Row.{Row};
-    ghost use Rattle.std.specs.Coded.{codes};
-    ghost use Rattle.mod_users.specs.contracts.row.Row as row;
+    ghost use Rattle.mod_users.specs.declared.entry.Entry.{Entry};
+    ghost use Rattle.mod_users.specs.Rows.{entries_in, AreReadyRows};
     ghost use Rattle.mod_users.specs.Search.{row_key};
 
-    ghost Value = { List Row };
+    ghost Value = { List Entry };
 
-    ghost coded = { Prim.hlevel (codes, row.the_row.coded) };
-
-    ghost view = { λ u. u.rows.items };
+    ghost view = { λ u. entries_in u.rows.items };
 
     ghost invariant = { λ u. record {
       names : u.names ≡ map row_key u.rows.items;
       bound : length u.rows.items ≤ 4194304;
+      ready : AreReadyRows u.rows.items;
     } };
 }
 
@@ -62,18 +61,20 @@ fn fault_of(wrong: LineFault) -> UsersFault
 
 /// The row of a place, if there is one.
 fn row_at(rows: &[Row], place: usize) -> Option<&Row>
-    ensures { option_copied result ≡ slice_get rows.now place }
+    requires ready { AreReadyRows rows.now }
+    ensures entry { option_map (λ row. row.now.entry) result ≡ slice_get (entries_in rows.now) place }
+    ensures ready { IfSome result (λ row. IsReadyRow row.now) }
 {
     rows.get(place)
 }
 
 impl Users {
-    ghost use Rattle.std.specs.Prelude.{[], IfErr};
+    ghost use Rattle.std.specs.Prelude.{[]};
     ghost use Rattle.mod_users.specs.declared.form.Form.TheVariants as form;
-    ghost use Rattle.mod_users.specs.Rows.{entries_in};
     ghost use Rattle.mod_users.specs.Fits.{fits_at, item_fits_at, reply_meets_at};
     ghost use Rattle.mod_users.specs.Files.{files_done};
-    ghost use Rattle.mod_users.specs.Users.{IsReadAs, IsFaultOf};
+    ghost use Rattle.rad_text.specs.Answers.{IsAnswer};
+    ghost use Rattle.mod_users.specs.Users.{users_of_text, says};
 
     /// No entries.
     pub fn new(alloc: Global) -> Users
@@ -88,8 +89,7 @@ impl Users {
     /// The entries of a text whose reply items stand in this form.
     fn read_form(alloc: Global, form: Form, text: &[u8], dict: &Dict) -> Result<Users, UsersFault>
         requires { length text.now ≤ 4194304 }
-        ensures read { IfOk result (λ users. IsReadAs form users text.now dict.now) }
-        ensures fault { IfErr result (λ fault. IsFaultOf fault form text.now dict.now) }
+        ensures { IsAnswer says (users_of_text form text.now dict.now) result }
     {
         let Ok(Drafts { drafts, wrong }) = drafts_of(alloc, form, text, dict) else {
             return Err(UsersFault::NoMemory);
@@ -113,8 +113,7 @@ impl Users {
     /// counted in 32 bits.
     pub fn read(alloc: Global, text: &[u8], dict: &Dict) -> Result<Users, UsersFault>
         requires { length text.now ≤ 4194304 }
-        ensures read { IfOk result (λ users. IsReadAs form.Reply users text.now dict.now) }
-        ensures fault { IfErr result (λ fault. IsFaultOf fault form.Reply text.now dict.now) }
+        ensures { IsAnswer says (users_of_text form.Reply text.now dict.now) result }
     {
         Users::read_form(alloc, Form::Reply, text, dict)
     }
@@ -123,8 +122,7 @@ impl Users {
     /// `+=`.
     pub fn read_filter(alloc: Global, text: &[u8], dict: &Dict) -> Result<Users, UsersFault>
         requires { length text.now ≤ 4194304 }
-        ensures read { IfOk result (λ users. IsReadAs form.Filter users text.now dict.now) }
-        ensures fault { IfErr result (λ fault. IsFaultOf fault form.Filter text.now dict.now) }
+        ensures { IsAnswer says (users_of_text form.Filter text.now dict.now) result }
     {
         Users::read_form(alloc, Form::Filter, text, dict)
     }
@@ -138,7 +136,7 @@ impl Users {
 
     /// The n-th entry, counted from 0, or none exactly where n is at least `len`.
     pub fn get(&self, n: u32) -> Option<&Entry>
-        ensures { option_copied result ≡ slice_get (entries_in self.now) n }
+        ensures { option_copied result ≡ slice_get self.now n }
     {
         match self.rows.get(n as usize) {
             Some(row) => Some(&row.entry),
@@ -157,7 +155,7 @@ impl Users {
     ) -> Result<bool, NoMemory>
         ensures { IfOk result (λ fit. fit ≡ item_fits_at self.now n item scope.now.lists.request dict.now) }
     {
-        match self.rows.get(n as usize) {
+        match row_at(self.rows.as_slice(), n as usize) {
             Some(row) => check_fits(alloc, row, item as usize, &scope.lists, dict),
             None => Ok(false),
         }
@@ -175,7 +173,7 @@ impl Users {
     ) -> Result<bool, NoMemory>
         ensures { IfOk result (λ fit. fit ≡ fits_at self.now n key.now scope.now.lists.request dict.now) }
     {
-        match self.rows.get(n as usize) {
+        match row_at(self.rows.as_slice(), n as usize) {
             Some(row) => fits(alloc, row, key, &scope.lists, dict),
             None => Ok(false),
         }
@@ -194,7 +192,7 @@ impl Users {
     ) -> Result<bool, NoMemory>
         ensures { IfOk result (λ met. met ≡ reply_meets_at self.now n item value.now dict.now) }
     {
-        match self.rows.get(n as usize) {
+        match row_at(self.rows.as_slice(), n as usize) {
             Some(row) => reply_met(alloc, row, item as usize, value, dict),
             None => Ok(false),
         }

@@ -5,7 +5,7 @@ use Rattle.rad_outside.specs.declared.files.Place.{Place}
 use Rattle.rad_outside.specs.Files.{FilesTold, octets_at}
 use Rattle.rad_outside.specs.Telling.{Tells}
 use Rattle.rad_dict.specs.Definitions.{Definitions}
-use Rattle.mod_files.specs.declared.entry.Entry.{Entry}
+use Rattle.mod_users.specs.declared.entry.Entry.{Entry}
 use Rattle.rad_site.specs.declared.fault.BuildFault.{BuildFault}
 use Rattle.rad_site.specs.Nodes.{Gives, bad_setting}
 use Rattle.rad_site.specs.Sources.{Finds, FindsIn}

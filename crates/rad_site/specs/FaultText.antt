@@ -6,8 +6,8 @@ use Rattle.rad_conf.specs.declared.fault.ConfFault.{ConfFault}
 use Rattle.rad_conf.specs.declared.fault.ConfFault.TheVariants as conf
 use Rattle.rad_dict.specs.declared.fault.DictFault.{DictFault}
 use Rattle.rad_dict.specs.declared.fault.DictFault.TheVariants as dict
-use Rattle.mod_files.specs.declared.fault.UsersFault.{UsersFault}
-use Rattle.mod_files.specs.declared.fault.UsersFault.TheVariants as users
+use Rattle.mod_users.specs.declared.fault.UsersFault.{UsersFault}
+use Rattle.mod_users.specs.declared.fault.UsersFault.TheVariants as users
 use Rattle.unlang_tree.specs.declared.fault.TreeFault.{TreeFault}
 use Rattle.unlang_tree.specs.declared.fault.TreeFault.TheVariants as tree
 use Rattle.rad_site.specs.declared.fault.BuildFault.{BuildFault}
@@ -66,7 +66,11 @@ dict_fault_text dict.NoMemory = memory_text
 
 -- A fault of a users file: the file, the line and the reason.
 abbrev pub users_fault_text : List ℕ → UsersFault → List ℕ
-users_fault_text file (users.NotBuilt line) = placed_text (record { file = file; line = line }) (codes "NotBuilt")
+users_fault_text file (users.UnknownAttr spot) = placed_text (record { file = file; line = spot.line }) (codes "UnknownAttr")
+users_fault_text file (users.BadOperator spot) = placed_text (record { file = file; line = spot.line }) (codes "BadOperator")
+users_fault_text file (users.BadValue spot) = placed_text (record { file = file; line = spot.line }) (codes "BadValue")
+users_fault_text file (users.BadPattern spot) = placed_text (record { file = file; line = spot.line }) (codes "BadPattern")
+users_fault_text file (users.BadEntry spot) = placed_text (record { file = file; line = spot.line }) (codes "BadEntry")
 users_fault_text file users.NoMemory = memory_text
 
 -- Why a site could not be built, as it is printed behind the program's own words.

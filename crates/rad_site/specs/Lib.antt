@@ -1,7 +1,5 @@
 pub mod Attributes
 pub mod Codes
-pub mod FilesModule
-pub mod FilesLaws
 pub mod SiteModules
 pub mod SiteLaws
 pub mod Policies

@@ -1,8 +1,8 @@
 -- The modules of a site, `modules { kind [name] { settings } }`, and the files that they name. After the manual pages
 -- radiusd.conf(5), rlm_always(5), rlm_files(5) and rlm_pap(5).
-use Rattle.std.specs.Prelude.{ℕ, Bool, ◌==◌, List, [], ◌∷◌, length, nat_lt, slice_index, Option, Some, None, Result, Ok, Err, codes, if◌then◌else◌}
+use Rattle.std.specs.Prelude.{ℕ, Bool, false, ◌||◌, ◌==◌, find, List, [], ◌∷◌, length, nat_lt, slice_index, Option, Some, None, Result, Ok, Err, codes, if◌then◌else◌}
 use Rattle.std.specs.List.{list_any}
-use Rattle.std.specs.Option.{option_and_then}
+use Rattle.std.specs.Option.{option_and_then, option_map_or}
 use Rattle.std.specs.Str.{bytes_eq, is_utf8}
 use Rattle.rad_outside.specs.declared.files.Place.{Place}
 use Rattle.rad_outside.specs.Files.{octets_at}
@@ -13,16 +13,21 @@ use Rattle.rad_conf.specs.declared.tree.Item.{out-Item}
 use Rattle.rad_conf.specs.declared.tree.Item.TheOpen as level
 use Rattle.rad_conf.specs.Conf.{path_of}
 use Rattle.rad_policy.specs.Policy.{Sources}
-use Rattle.mod_files.specs.declared.entry.Entry.{Entry}
-use Rattle.mod_files.specs.declared.fault.UsersFault.{UsersFault}
-use Rattle.mod_files.specs.Entries.{users_of}
+use Rattle.unlang_xlat.specs.declared.part.Part.{Part}
+use Rattle.unlang_xlat.specs.declared.fault.XlatFault.{XlatFault}
+use Rattle.unlang_xlat.specs.Faults.{parsed}
+use Rattle.mod_users.specs.declared.entry.Entry.{Entry}
+use Rattle.mod_users.specs.declared.fault.UsersFault.{UsersFault}
+use Rattle.mod_users.specs.declared.form.Form.TheVariants.{Reply}
+use Rattle.mod_users.specs.Users.{users_of_text}
+use Rattle.mod_users.specs.Module.{module_by}
 use Rattle.rad_site.specs.declared.fault.BuildFault.{BuildFault}
 use Rattle.rad_site.specs.declared.fault.BuildFault.TheVariants as fault
 use Rattle.rad_site.specs.declared.site_module.SiteModule.{SiteModule}
 use Rattle.rad_site.specs.declared.site_module.SiteModule.TheVariants as site
 use Rattle.rad_site.specs.Codes.{code_named}
 use Rattle.rad_site.specs.Nodes.{◌>>=◌, refused, bad_setting, formed, after_each}
-use Rattle.rad_site.specs.Items.{setting_of, pair_named, nodes_of}
+use Rattle.rad_site.specs.Items.{setting_of, is_pair_of, pair_named, nodes_of}
 use Rattle.rad_site.specs.Modules.{Modules, no_modules, is_taken, has_room, and_module, with_codes}
 
 -- The path of a file that a setting names: below the site's folder, or as it stands where it begins with `/`.
@@ -37,7 +42,7 @@ of_users name (Err wrong) = Err (fault.Users name wrong)
 -- The users of a file's octets. One that is missing or has more than 4 MiB is refused at the setting.
 abbrev pub users_in : Definitions → Place → List ℕ → Option (List ℕ) → Result (List Entry) BuildFault
 users_in dict place name None = bad_setting place (codes "filename")
-users_in dict place name (Some text) = if nat_lt 4194304 (length text) then bad_setting place (codes "filename") else of_users name (users_of text dict)
+users_in dict place name (Some text) = if nat_lt 4194304 (length text) then bad_setting place (codes "filename") else of_users name (users_of_text Reply text dict)
 
 -- The users of the file of a name, which is UTF-8.
 unfoldable pub users_at : Sources → Definitions → Place → List ℕ → Result (List Entry) BuildFault
@@ -82,14 +87,49 @@ plain_module place kind name items =
     else (if is_later kind then refused place
     else Err (fault.UnknownModule place kind))))
 
--- The module `files` of these users. A setting `key` isn't built yet.
-unfoldable pub files_with : Option Node → List Entry → Result SiteModule BuildFault
-files_with None users = Ok (site.Files (record { users = users }))
-files_with (Some node) users = refused node.place
+-- The key of `files` where none is set: the user's name, without its realm where that was taken off.
+abbrev pub usual_key : List ℕ
+usual_key = codes "%{%{Stripped-User-Name}:-%{User-Name}}"
 
--- The module `files`.
-abbrev pub files_module : Sources → Definitions → Place → List Node → Result SiteModule BuildFault
-files_module sources dict place items = users_by sources dict place (pair_named (codes "filename") items) >>= files_with (pair_named (codes "key") items)
+-- A key that a text writes; one that can't be read is refused at a place.
+abbrev pub key_or_refused : Place → Result (List Part) XlatFault → Result (List Part) BuildFault
+key_or_refused place (Ok parts) = Ok parts
+key_or_refused place (Err wrong) = bad_setting place (codes "key")
+
+-- The key of the first setting `key` of a block at this place.
+unfoldable pub key_by : Definitions → Place → Option Node → Result (List Part) BuildFault
+key_by dict place None = key_or_refused place (parsed usual_key dict)
+key_by dict place (Some node) = elim (setting_of node) [
+  | None ↦ bad_setting node.place (codes "key")
+  | Some setting ↦ key_or_refused node.place (parsed setting.1 dict)
+]
+
+-- The module `files` of these users, and of the first setting `key`.
+unfoldable pub files_with : Definitions → Place → Option Node → List Entry → Result SiteModule BuildFault
+files_with dict place setting users = key_by dict place setting >>= λ key. Ok (site.Files (module_by users key))
+
+-- The module `files` where its file is looked at before its key.
+abbrev pub file_then_key : Sources → Definitions → Place → List Node → Result SiteModule BuildFault
+file_then_key sources dict place items =
+    users_by sources dict place (pair_named (codes "filename") items) >>= files_with dict place (pair_named (codes "key") items)
+
+-- The module `files` where its key is looked at before its file.
+abbrev pub key_then_file : Sources → Definitions → Place → List Node → Result SiteModule BuildFault
+key_then_file sources dict place items =
+    key_by dict place (pair_named (codes "key") items) >>= λ key.
+    users_by sources dict place (pair_named (codes "filename") items) >>= λ users. Ok (site.Files (module_by users key))
+
+-- A pair `key` or `filename`.
+abbrev pub is_files_pair : Node → Bool
+is_files_pair node = is_pair_of (codes "key") node || is_pair_of (codes "filename") node
+
+-- Whether the first of these pairs is a `key`.
+abbrev pub has_key_first : List Node → Bool
+has_key_first items = option_map_or (is_pair_of (codes "key")) (find is_files_pair items) false
+
+-- The module `files`: its settings are looked at in the order in which they stand.
+unfoldable pub files_module : Sources → Definitions → Place → List Node → Result SiteModule BuildFault
+files_module sources dict place items = if has_key_first items then key_then_file sources dict place items else file_then_key sources dict place items
 
 -- A block of this kind is of `files`.
 abbrev pub is_files : List ℕ → Bool

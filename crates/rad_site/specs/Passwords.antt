@@ -8,6 +8,7 @@ use Rattle.rad_value.specs.declared.edits.ListName.TheVariants.{Control}
 use Rattle.rad_value.specs.declared.values.Value.{Value}
 use Rattle.rad_value.specs.Pairs.{text_of}
 use Rattle.rad_words.specs.declared.sections.Section.TheVariants.{Authorize, Authenticate}
+use Rattle.mod_users.specs.Module as files
 use Rattle.unlang_tree.specs.declared.statement.Call.{Call}
 use Rattle.unlang_tree.specs.declared.statement.Statement.{Statement}
 use Rattle.unlang_tree.specs.declared.statement.StatementKind.TheVariants as kind
@@ -18,7 +19,6 @@ use Rattle.unlang_code.specs.Sections.{statements_of}
 use Rattle.rad_site.specs.declared.site_module.SiteModule.{SiteModule}
 use Rattle.rad_site.specs.declared.site_module.SiteModule.TheVariants as site
 use Rattle.rad_site.specs.Attributes.{auth_type}
-use Rattle.rad_site.specs.FilesModule.{files_edits}
 use Rattle.rad_site.specs.Policies.{Policies}
 use Rattle.rad_site.specs.Access.{section_named}
 
@@ -38,7 +38,7 @@ edit_accepts edit = same_list edit.list Control && same_attr auth_type edit.attr
 -- that is so.
 abbrev pub module_accepts : SiteModule → Bool
 module_accepts (site.Always m) = false
-module_accepts (site.Files m) = files_edits m.users Control auth_type
+module_accepts (site.Files m) = files.edits m Control auth_type
 module_accepts (site.Pap m) = is_accept m.name
 module_accepts (site.Chap m) = is_accept m.name
 

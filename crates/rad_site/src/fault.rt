@@ -2,7 +2,7 @@
 
 ghost use Rattle.std.specs.Prelude.{◌≡◌};
 
-use mod_files::UsersFault;
+use mod_users::UsersFault;
 use rad_conf::ConfFault;
 use rad_dict::DictFault;
 use rad_outside::{NoMemory, Octets, Place};

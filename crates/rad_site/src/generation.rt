@@ -21,8 +21,12 @@ pub struct Generation {
 
 impl Model for Generation {
     ghost use Rattle.rad_site.specs.Site.{Site};
+    ghost use Rattle.std.specs.Coded.{codes};
+    ghost use Rattle.unlang_xlat.specs.contracts.part.Part as part;
 
     ghost Value = { Site };
+
+    ghost coded = { Prim.hlevel (codes, part.the_row.coded) };
 
     ghost view = { λ g. record {
       dict = g.dict;

@@ -10,7 +10,6 @@ mod attributes;
 mod bare_world;
 mod build;
 mod fault;
-mod files_module;
 mod generation;
 mod laws;
 mod policies;
@@ -22,7 +21,6 @@ mod verdict;
 
 pub use build::fault_text;
 pub use fault::BuildFault;
-pub use files_module::FilesModule;
 pub use generation::Generation;
 pub use laws::{
     challenges_let_requests_in, passwords_and_challenges_let_requests_in, passwords_let_requests_in,

@@ -15,8 +15,12 @@ impl Model for Policies {
     ghost use Rattle.unlang_code.specs.Serving.{Serves};
     ghost use Rattle.rad_site.specs.Policies.{Policies};
     ghost use Rattle.rad_site.specs.SiteModules.{site_module};
+    ghost use Rattle.std.specs.Coded.{codes};
+    ghost use Rattle.unlang_xlat.specs.contracts.part.Part as part;
 
     ghost Value = { Policies };
+
+    ghost coded = { Prim.hlevel (codes, part.the_row.coded) };
 
     ghost view = { λ p. record {
       stack = p.stack;

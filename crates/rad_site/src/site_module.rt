@@ -3,9 +3,9 @@
 ghost use Rattle.rad_site.specs.SiteModules.{site_module};
 ghost use Rattle.rad_site.specs.SiteLaws.{site_module_lawful};
 
-use crate::files_module::FilesModule;
 use mod_auth::{Chap, Pap};
 use mod_base::{Always, MethodSet, Module, World};
+use mod_users::FilesModule;
 use rad_dict::Dict;
 use rad_outside::NoMemory;
 use rad_value::Scope;
@@ -17,7 +17,7 @@ use std::alloc::Global;
 pub enum SiteModule {
     /// `always { rcode = CODE }`
     Always(Always),
-    /// `files { filename = NAME }`
+    /// `files { filename = NAME, key = TEXT }`
     Files(FilesModule),
     /// `pap { }`
     Pap(Pap),

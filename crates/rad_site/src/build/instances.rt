@@ -29,8 +29,12 @@ pub(crate) struct Modules {
 impl Model for Modules {
     ghost use Rattle.std.specs.Prelude.{◌≤◌};
     ghost use Rattle.rad_site.specs.Modules.{Modules, AreInStep};
+    ghost use Rattle.std.specs.Coded.{codes};
+    ghost use Rattle.unlang_xlat.specs.contracts.part.Part as part;
 
     ghost Value = { Modules };
+
+    ghost coded = { Prim.hlevel (codes, part.the_row.coded) };
 
     ghost view = { λ m. record {
       instances = m.instances;

@@ -46,7 +46,7 @@ pub(crate) fn setting_of(node: &Node) -> Option<(&[u8], &[u8])>
 }
 
 /// Whether an item is a pair of this name.
-fn is_pair_of(wanted: &[u8], node: &Node) -> bool
+pub(crate) fn is_pair_of(wanted: &[u8], node: &Node) -> bool
     ensures { result ≡ is_pair_of wanted.now node.now }
 {
     match &node.item {

@@ -1,29 +1,34 @@
 //! The modules of a site.
 
 ghost use Rattle.std.specs.Prelude.{◌≡◌, false};
+ghost use Rattle.std.specs.List.{find};
 ghost use Rattle.std.specs.Option.{option_map, option_copied};
 ghost use Rattle.rad_outside.specs.Telling.{Counts};
+ghost use Rattle.unlang_xlat.specs.Faults.{parsed};
 ghost use Rattle.rad_site.specs.Nodes.{Gives, after_each};
 ghost use Rattle.rad_site.specs.Sources.{FindsIn};
 ghost use Rattle.rad_site.specs.Modules.{no_modules, is_taken};
-ghost use Rattle.rad_site.specs.ModulesBlock.{rcode_at, always_by, is_later, plain_module, files_with, files_module, is_files, module_of, and_room, with_instance, module_block, with_module, with_modules, modules_in};
+ghost use Rattle.rad_site.specs.ModulesBlock.{rcode_at, always_by, is_later, plain_module, key_or_refused, key_by, files_with, file_then_key, key_then_file, is_files_pair, has_key_first, files_module, is_files, module_of, and_room, with_instance, module_block, with_module, with_modules, modules_in};
 
 use crate::build::codes::code_named;
 use crate::build::instances::Modules;
-use crate::build::item::{nodes_of, pair_named, setting_of};
+use crate::build::item::{is_pair_of, nodes_of, pair_named, setting_of};
 use crate::build::refusal::{refuse, refuse_setting, unknown_module};
 use crate::build::users::users_by;
 use crate::fault::BuildFault;
-use crate::files_module::FilesModule;
 use crate::site_module::SiteModule;
 use mod_auth::{Chap, Pap};
 use mod_base::Always;
-use mod_files::Users;
+use mod_users::{FilesModule, Users};
 use rad_conf::{Item, Node};
 use rad_dict::Dict;
 use rad_outside::{Files, Octets, Place};
 use rad_words::Code;
 use std::alloc::Global;
+use unlang_xlat::{Xlat, XlatFault};
+
+/// The key of `files` where none is set: the user's name, without its realm where that was taken off.
+const USUAL_KEY: &[u8] = b"%{%{Stripped-User-Name}:-%{User-Name}}";
 
 /// The return code of the setting `rcode = CODE`.
 fn rcode_at(node: &Node) -> Option<Code>
@@ -85,18 +90,111 @@ fn plain_module(
     unknown_module(alloc, place, kind)
 }
 
-/// The module `files` of these users.
-#[tactic(auto, unfolding(crate::specs::ModulesBlock::files_with))]
-fn files_with(alloc: Global, key: Option<&Node>, users: Users) -> Result<SiteModule, BuildFault>
-    ensures { Gives result (files_with (option_copied key.entry) users) }
+/// A key that a text writes; one that can't be read is refused at a place.
+fn key_of(alloc: Global, dict: &Dict, place: &Place, text: &[u8]) -> Result<Xlat, BuildFault>
+    ensures { Gives result (key_or_refused place.now (parsed text.now dict.now)) }
 {
-    match key {
-        None => Ok(SiteModule::Files(FilesModule { users })),
-        Some(node) => refuse(alloc, &node.place),
+    match Xlat::parse(alloc, text, dict) {
+        Ok(key) => Ok(key),
+        Err(XlatFault::NoMemory) => Err(BuildFault::NoMemory),
+        Err(_) => refuse_setting(alloc, place, b"key"),
     }
 }
 
-/// The module `files`.
+/// The key of the first setting `key` of a block at this place.
+#[tactic(auto, unfolding(crate::specs::ModulesBlock::key_by))]
+fn key_by(
+    alloc: Global,
+    dict: &Dict,
+    place: &Place,
+    setting: Option<&Node>,
+) -> Result<Xlat, BuildFault>
+    ensures { Gives result (key_by dict.now place.now (option_copied setting.entry)) }
+{
+    let Some(node) = setting else {
+        return key_of(alloc, dict, place, USUAL_KEY);
+    };
+    match setting_of(node) {
+        None => refuse_setting(alloc, &node.place, b"key"),
+        Some((_, text)) => key_of(alloc, dict, &node.place, text),
+    }
+}
+
+/// The module `files` of these users, and of the first setting `key`.
+#[tactic(auto, unfolding(crate::specs::ModulesBlock::files_with))]
+fn files_with(
+    alloc: Global,
+    dict: &Dict,
+    place: &Place,
+    setting: Option<&Node>,
+    users: Users,
+) -> Result<SiteModule, BuildFault>
+    ensures { Gives result (files_with dict.now place.now (option_copied setting.entry) users) }
+{
+    let key = key_by(alloc, dict, place, setting)?;
+    Ok(SiteModule::Files(FilesModule::new(users, key)))
+}
+
+/// The module `files` where its file is looked at before its key.
+fn file_then_key<F: Files>(
+    alloc: Global,
+    files: &mut F,
+    dir: &str,
+    dict: &Dict,
+    place: &Place,
+    items: &[Node],
+) -> Result<SiteModule, BuildFault>
+    ensures told { FindsIn dir.now (λ sources. file_then_key sources dict.now place.now items.now) result
+        (F.told files.old) (F.told files.new) }
+    ensures faults { Counts (F.faults files.old) (F.faults files.new) (result ≡ Err BuildFault.ReadFault) }
+{
+    let users = users_by(alloc, files, dir, dict, place, items)?;
+    files_with(alloc, dict, place, pair_named(b"key", items), users)
+}
+
+/// The module `files` where its key is looked at before its file.
+fn key_then_file<F: Files>(
+    alloc: Global,
+    files: &mut F,
+    dir: &str,
+    dict: &Dict,
+    place: &Place,
+    items: &[Node],
+) -> Result<SiteModule, BuildFault>
+    ensures told { FindsIn dir.now (λ sources. key_then_file sources dict.now place.now items.now) result
+        (F.told files.old) (F.told files.new) }
+    ensures faults { Counts (F.faults files.old) (F.faults files.new) (result ≡ Err BuildFault.ReadFault) }
+{
+    let key = key_by(alloc, dict, place, pair_named(b"key", items))?;
+    let users = users_by(alloc, files, dir, dict, place, items)?;
+    Ok(SiteModule::Files(FilesModule::new(users, key)))
+}
+
+/// Whether an item is a pair `key` or `filename`.
+fn is_files_pair(node: &Node) -> bool
+    ensures { result ≡ is_files_pair node.now }
+{
+    is_pair_of(b"key", node) || is_pair_of(b"filename", node)
+}
+
+/// The first pair `key` or `filename`.
+fn first_files_pair(items: &[Node]) -> Option<&Node>
+    ensures { option_copied result ≡ find is_files_pair items.now }
+{
+    items.iter().find(|node| is_files_pair(node))
+}
+
+/// Whether the first of these pairs is a `key`.
+fn has_key_first(items: &[Node]) -> bool
+    ensures { result ≡ has_key_first items.now }
+{
+    match first_files_pair(items) {
+        Some(node) => is_pair_of(b"key", node),
+        None => false,
+    }
+}
+
+/// The module `files`: its settings are looked at in the order in which they stand.
 fn files_module<F: Files>(
     alloc: Global,
     files: &mut F,
@@ -109,8 +207,10 @@ fn files_module<F: Files>(
         (F.told files.old) (F.told files.new) }
     ensures faults { Counts (F.faults files.old) (F.faults files.new) (result ≡ Err BuildFault.ReadFault) }
 {
-    let users = users_by(alloc, files, dir, dict, place, items)?;
-    files_with(alloc, pair_named(b"key", items), users)
+    if has_key_first(items) {
+        return key_then_file(alloc, files, dir, dict, place, items);
+    }
+    file_then_key(alloc, files, dir, dict, place, items)
 }
 
 /// Whether a block of this kind is of `files`.

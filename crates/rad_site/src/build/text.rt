@@ -4,7 +4,7 @@ ghost use Rattle.std.specs.Prelude.{◌≡◌, ◌++◌, IfOk};
 ghost use Rattle.rad_site.specs.FaultText.{placed_text, conf_fault_text, tree_fault_text, dict_fault_text, users_fault_text, fault_text, read_fault_text, memory_text};
 
 use crate::fault::BuildFault;
-use mod_files::UsersFault;
+use mod_users::UsersFault;
 use rad_conf::ConfFault;
 use rad_dict::DictFault;
 use rad_outside::{NoMemory, Octets, Place};
@@ -109,7 +109,11 @@ fn users_fault_text(alloc: Global, file: &[u8], fault: &UsersFault) -> Result<Oc
     ensures { IfOk result (λ text. text ≡ users_fault_text file.now fault.now) }
 {
     match fault {
-        UsersFault::NotBuilt(line) => lined_text(alloc, file, *line, b"NotBuilt"),
+        UsersFault::UnknownAttr(spot) => lined_text(alloc, file, spot.line, b"UnknownAttr"),
+        UsersFault::BadOperator(spot) => lined_text(alloc, file, spot.line, b"BadOperator"),
+        UsersFault::BadValue(spot) => lined_text(alloc, file, spot.line, b"BadValue"),
+        UsersFault::BadPattern(spot) => lined_text(alloc, file, spot.line, b"BadPattern"),
+        UsersFault::BadEntry(spot) => lined_text(alloc, file, spot.line, b"BadEntry"),
         UsersFault::NoMemory => memory_text(alloc),
     }
 }

@@ -1,6 +1,6 @@
 //! The users file that a module names.
 
-ghost use Rattle.std.specs.Prelude.{◌≡◌, Some, codes};
+ghost use Rattle.std.specs.Prelude.{◌≡◌, Some, Err, codes};
 ghost use Rattle.rad_outside.specs.Telling.{Counts};
 ghost use Rattle.rad_site.specs.Nodes.{Gives};
 ghost use Rattle.rad_site.specs.Items.{pair_named};
@@ -11,7 +11,7 @@ use crate::build::item::{pair_named, setting_of};
 use crate::build::path::file_path;
 use crate::build::refusal::refuse_setting;
 use crate::fault::BuildFault;
-use mod_files::{Users, UsersFault};
+use mod_users::{Users, UsersFault};
 use rad_conf::Node;
 use rad_dict::Dict;
 use rad_outside::{Files, Found, Octets, Place};
@@ -22,6 +22,13 @@ const LONGEST: usize = 4_194_304;
 
 /// The setting that names the file.
 const FILENAME: &[u8] = b"filename";
+
+/// Refuses a users file, by its name.
+fn refuse_users<T>(alloc: Global, name: &[u8], wrong: UsersFault) -> Result<T, BuildFault>
+    ensures { Gives result (Err (BuildFault.Users name.now wrong)) }
+{
+    Err(BuildFault::Users(Octets::of(alloc, name)?, wrong))
+}
 
 /// The users of a file's octets, which are refused at a place where they are too many.
 fn users_in(
@@ -38,10 +45,17 @@ fn users_in(
     }
     match Users::read(alloc, text, dict) {
         Ok(users) => Ok(users),
-        Err(UsersFault::NotBuilt(line)) => Err(BuildFault::Users(
-            Octets::of(alloc, name)?,
-            UsersFault::NotBuilt(line),
-        )),
+        Err(UsersFault::UnknownAttr(spot)) => {
+            refuse_users(alloc, name, UsersFault::UnknownAttr(spot))
+        }
+        Err(UsersFault::BadOperator(spot)) => {
+            refuse_users(alloc, name, UsersFault::BadOperator(spot))
+        }
+        Err(UsersFault::BadValue(spot)) => refuse_users(alloc, name, UsersFault::BadValue(spot)),
+        Err(UsersFault::BadPattern(spot)) => {
+            refuse_users(alloc, name, UsersFault::BadPattern(spot))
+        }
+        Err(UsersFault::BadEntry(spot)) => refuse_users(alloc, name, UsersFault::BadEntry(spot)),
         Err(UsersFault::NoMemory) => Err(BuildFault::NoMemory),
     }
 }

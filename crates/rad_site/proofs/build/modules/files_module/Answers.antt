@@ -1,24 +1,20 @@
-use Rattle.std.proofs.Common.{codes, refl}
-use Rattle.std.proofs.lemmas.Result.{err_from_is_err_and}
-use Rattle.rad_policy.specs.Policy.{Sources}
-use Rattle.rad_site.specs.Items.{pair_named}
-use Rattle.rad_site.specs.ModulesBlock.{users_by, files_with}
-use Rattle.rad_site.proofs.Finding.{FindsIn-pure, FindsIn-stops, FindsIn-then}
+use Rattle.std.proofs.Common.{cond, ap}
+use Rattle.rad_site.specs.ModulesBlock.{key_then_file, file_then_key, files_module}
+use Rattle.rad_site.proofs.Finding.{FindsIn-same}
 use Rattle.rad_site.proofs.build.modules.files_module.Goals as goal
 
-pub returns-in_err-users-clause-told : goal.returns-in_err-users-clause-told
-returns-in_err-users-clause-told g c =
-    let p = err_from_is_err_and c.from_residual.result c.from_residual.ensures.1 in
+pub returns-then-has_key_first-clause-told : goal.returns-then-has_key_first-clause-told
+unfolding files_module
+returns-then-has_key_first-clause-told g c =
+    let place = c.args.place.now in
     let items = c.args.items.now in
-    rw (p.1, p.2) (FindsIn-stops c.args.dir.now (λ sources. users_by sources c.args.dict.now c.args.place.now (pair_named (codes "filename") items)) (λ (sources : Sources). files_with (pair_named (codes "key") items)) c.in_err-users.field-0.0
-    (g.F.Files.told c.args.files.now) (g.F.Files.told c.users_by.new.files) c.in_err-users.ensures.told)
+    FindsIn-same c.args.dir.now (λ sources. key_then_file sources c.args.dict.now place items) (λ sources. files_module sources c.args.dict.now place items) c.key_then_file.result (g.F.Files.told c.args.files.now) (g.F.Files.told c.key_then_file.new.files)
+    (λ sources. ap (λ b. cond b (key_then_file sources c.args.dict.now place items) (file_then_key sources c.args.dict.now place items)) c.if-has_key_first.ensures) c.key_then_file.ensures.told
 
 pub returns-clause-told : goal.returns-clause-told
+unfolding files_module
 returns-clause-told g c =
-    let now = g.F.Files.told c.users_by.new.files in
+    let place = c.args.place.now in
     let items = c.args.items.now in
-    let users = c.in_ok-users.users in
-    let whole = files_with (pair_named (codes "key") items) users in
-    FindsIn-then c.args.dir.now (λ sources. users_by sources c.args.dict.now c.args.place.now (pair_named (codes "filename") items)) (λ (sources : Sources). files_with (pair_named (codes "key") items)) users c.files_with.result
-    (g.F.Files.told c.args.files.now) now now c.in_ok-users.ensures.told
-    (FindsIn-pure c.args.dir.now (λ sources. whole) c.files_with.result whole now (λ sources. refl) (rw c.pair_named.ensures at c.files_with.ensures))
+    FindsIn-same c.args.dir.now (λ sources. file_then_key sources c.args.dict.now place items) (λ sources. files_module sources c.args.dict.now place items) c.file_then_key.result (g.F.Files.told c.args.files.now) (g.F.Files.told c.file_then_key.new.files)
+    (λ sources. ap (λ b. cond b (key_then_file sources c.args.dict.now place items) (file_then_key sources c.args.dict.now place items)) c.if-has_key_first.ensures) c.file_then_key.ensures.told

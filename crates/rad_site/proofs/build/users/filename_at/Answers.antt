@@ -1,5 +1,5 @@
 use Rattle.std.proofs.Common.{◌≡◌, ℕ, List, Option, Some, None, Result, codes, sym, ap}
-use Rattle.mod_files.specs.declared.entry.Entry.{Entry}
+use Rattle.mod_users.specs.declared.entry.Entry.{Entry}
 use Rattle.rad_site.specs.declared.fault.BuildFault.{BuildFault}
 use Rattle.rad_site.specs.Nodes.{bad_setting}
 use Rattle.rad_site.specs.ModulesBlock.{users_at, filename_at}

@@ -1,9 +1,0 @@
-pub mod Walks
-pub mod Trials
-pub mod PlacesLemmas
-pub mod EntriesLemmas
-pub mod KnownPasswords
-pub mod NoLineEnds
-pub mod WrittenItems
-pub mod WrittenLines
-pub mod WrittenBack

@@ -1,6 +1,0 @@
-use Rattle.std.proofs.Common.{◌≡◌, drop}
-use Rattle.mod_files.specs.Files.{edits_of, all_tried}
-use Rattle.mod_files.proofs.files.do_items.Given as goal
-
-abbrev pub invariant-loop-n : goal.invariant-loop-n
-invariant-loop-n l = all_tried l.lists (edits_of l.list (drop l.n l.items)) ≡ all_tried l.fn.lists (edits_of l.list l.items)
