@@ -6,8 +6,8 @@ returns-in-Call-clause-memory g c = rw c.in-Call.is c.call.ensures.memory
 
 pub returns-in-Update-clause-ok : goal.returns-in-Update-clause-ok
 returns-in-Update-clause-ok g c =
-    rw c.in-Update.is (if_ok c.update.result (update_reaches c.args.section c.in-Update.edit c.args.scope.now c.update.new.scope (g.W.World.state c.args.world.now)) c.update.ensures)
+    rw c.in-Update.is (if_ok c.update.result (update_reaches c.args.dict.now c.args.section c.in-Update.lines.now c.args.scope.now c.update.new.scope (g.W.World.state c.args.world.now)) c.update.ensures.done)
 
 pub returns-in-Update-clause-memory : goal.returns-in-Update-clause-memory
 returns-in-Update-clause-memory g c =
-    rw c.in-Update.is (on_err c.update.result (update_stops c.args.section c.in-Update.edit c.args.scope.now (g.W.World.state c.args.world.now)))
+    rw c.in-Update.is (on_err c.update.result (update_stops c.args.dict.now c.args.section c.in-Update.lines.now c.args.scope.now (g.W.World.state c.args.world.now)))
