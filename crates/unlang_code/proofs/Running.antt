@@ -55,7 +55,7 @@ pub update_reaches : (dict : Definitions) (kind : Section) (lines : List Line) (
     → Reaches before w (updated dict kind lines) now w (one_child child)
 update_reaches dict kind lines before now w child done =
     reaches_moved before now w (updated dict kind lines) (one_child child)
-    (λ later earlier. ap (λ (d : Scope × Bool). updated_with kind d (situation_in before w later earlier)) done.1.0 ∙ ap (λ (c : Child). one_child c (situation_in now w later earlier)) (sym done.1.1))
+    (λ later earlier. ap (λ (d : Scope × Bool). updated_with kind d (situation_in before w later earlier)) done.1 ∙ ap (λ (c : Child). one_child c (situation_in now w later earlier)) (sym done.2))
 
 pub update_stops : (dict : Definitions) (kind : Section) (lines : List Line) (before : Scope) (w : WorldState) → Stops before w (λ s. (updated dict kind lines s).situation.effects) w
 update_stops dict kind lines before w = stops_start before w (λ s. (updated dict kind lines s).situation.effects) (λ s. grows_alone s)
