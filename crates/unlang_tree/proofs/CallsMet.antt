@@ -1,17 +1,16 @@
 -- Each call that is read is of an instance that is there and has a method for its section.
-use Rattle.std.proofs.Common.{codes, ◌≡◌, ℕ, ◌-◌, Bool, true, false, not, ◌&&◌, ◌||◌, cond, if◌then◌else◌, List, [], ◌∷◌, ◌++◌, length, Option, Some, None, is_some, Result, Ok, Err, refl, sym, ap, subst, ◌∙◌}
-use Rattle.std.specs.List.{AllByRecursion, flat_map, list_all}
+use Rattle.std.proofs.Common.{codes, ◌≡◌, ℕ, ◌-◌, Bool, true, false, not, ◌&&◌, ◌||◌, cond, if◌then◌else◌, List, [], ◌∷◌, ◌++◌, length, Option, Some, None, is_some, Result, Ok, Err, sym, ap, subst, ◌∙◌}
+use Rattle.std.specs.List.{AllByRecursion, list_all}
 use Rattle.std.specs.Str.{str_eq_ignore_ascii_case}
 use Rattle.std.proofs.lemmas.Grind.{flat_map-append}
 use Rattle.rad_outside.specs.declared.files.Place.{Place}
 use Rattle.rad_conf.specs.declared.tree.Word.{Word}
 use Rattle.rad_conf.specs.declared.tree.Node.{Node}
-use Rattle.rad_conf.specs.declared.tree.Item.{Item, out-Item}
+use Rattle.rad_conf.specs.declared.tree.Item.{out-Item}
 use Rattle.rad_conf.specs.Tree.{Layer}
 use Rattle.rad_conf.specs.declared.tree.Item.TheOpen as level
 use Rattle.rad_words.specs.declared.sections.Section.{Section}
 use Rattle.rad_words.specs.declared.sections.Section.TheVariants as which
-use Rattle.rad_value.specs.declared.edits.Edit.{Edit}
 use Rattle.rad_text.specs.Read.{◌>>=◌}
 use Rattle.unlang_tree.specs.declared.fault.TreeFault.{TreeFault}
 use Rattle.unlang_tree.specs.declared.fault.TreeFault.TheVariants as fault
@@ -31,7 +30,7 @@ use Rattle.unlang_tree.specs.Calls.{is_policy, can_be_called, call_of, is_option
 use Rattle.unlang_tree.specs.Actions.{overrides_of}
 use Rattle.unlang_tree.specs.Updates.{update_at}
 use Rattle.unlang_tree.specs.Statements.{counted_call, word_at, is_pair, with_actions, call_block_at, update_statement, block_at, statement_at, and_also, with_statement, statements_of}
-use Rattle.unlang_tree.specs.Sections.{subsection_block, with_subsection, own_name, with_call, with_run, with_own, with_written, with_one, with_part, parts_of, section_block, with_section, with_item, server_of}
+use Rattle.unlang_tree.specs.Sections.{subsection_block, with_subsection, own_name, with_call, with_run, with_written, with_one, with_part, parts_of, section_block, with_section, with_item, server_of}
 use Rattle.unlang_tree.specs.Policies.{server_block, with_server, servers_of}
 use Rattle.unlang_tree.specs.EachCall.{calls_in, calls_of, EachCall, EachCallWithin, EachCallIn, EachCallOfSections, EachCallOf, IsMet}
 use Rattle.unlang_tree.proofs.Binds.{ok_same, err_ok, bind_ok, past, passed, kept, all_both, all_wider}
@@ -155,7 +154,7 @@ module _ (site : Site) where
   update_met : (section : Section) (room : ℕ) (place : Place) (name : Option Word) (body : List Node) (statement : Option Statement)
       → update_statement site room place name body ≡ Ok statement → AreMetIf section statement
   update_met section room place name body statement e =
-      let one = bind_ok (update_at site.dict room place name body) (λ edit. Ok (Some (record { place = place; kind = kinds.Update edit }))) statement e in
+      let one = bind_ok (update_at site.dict room place name body) (λ lines. Ok (Some (record { place = place; kind = kinds.Update lines }))) statement e in
       subst (AreMetIf section) (ok_same (Some (record { place = place; kind = kinds.Update one.0 })) statement one.1.1) tt
 
   either_met : (section : Section) (b : Bool) (left right : Result (Option Statement) TreeFault) (statement : Option Statement)

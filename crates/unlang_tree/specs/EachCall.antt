@@ -15,7 +15,7 @@ use Rattle.unlang_tree.specs.Calls.{can_be_called}
 -- The calls of a statement, in order.
 abbrev pub calls_in_kind : StatementKind → List Call
 calls_in_kind (kinds.Call call) = call ∷ []
-calls_in_kind (kinds.Update edit) = []
+calls_in_kind (kinds.Update lines) = []
 
 abbrev pub calls_in : Statement → List Call
 calls_in statement = calls_in_kind statement.kind

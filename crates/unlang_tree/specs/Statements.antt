@@ -1,5 +1,5 @@
 -- The statements of a section, one equation for each form of a node. After the manual page unlang(5).
-use Rattle.std.specs.Prelude.{ℕ, Bool, true, false, not, ◌-◌, ◌&&◌, ◌||◌, List, [], ◌∷◌, ◌++◌, length, Option, Some, None, is_some, Result, Ok, Err, codes, if◌then◌else◌}
+use Rattle.std.specs.Prelude.{ℕ, Bool, true, false, not, ◌-◌, ◌||◌, List, [], ◌∷◌, ◌++◌, length, Option, Some, None, is_some, Result, Ok, Err, codes, if◌then◌else◌}
 use Rattle.std.specs.List.{list_all}
 use Rattle.std.specs.Str.{str_eq_ignore_ascii_case}
 use Rattle.rad_outside.specs.declared.files.Place.{Place}
@@ -57,7 +57,7 @@ call_block_at site section room place kind name body =
 -- An update, where the server has room for so many statements more.
 abbrev pub update_statement : Site → ℕ → Place → Option Word → List Node → Result (Option Statement) TreeFault
 update_statement site room place name body =
-    update_at site.dict room place name body >>= λ edit. Ok (Some (record { place = place; kind = kinds.Update edit }))
+    update_at site.dict room place name body >>= λ lines. Ok (Some (record { place = place; kind = kinds.Update lines }))
 
 -- A block: an update, a statement that isn't built yet, or a call.
 unfoldable pub block_at : Site → Section → ℕ → Place → List ℕ → Option Word → List Node → Result (Option Statement) TreeFault

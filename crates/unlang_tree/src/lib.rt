@@ -19,6 +19,7 @@ mod statement;
 mod statements;
 mod subsections;
 mod tree;
+mod update;
 mod updates;
 mod words;
 
@@ -32,3 +33,4 @@ pub use mod_base::MethodSet;
 pub use policies::{Policies, SectionTree, Sections, ServerTree, Subsection, Subsections};
 pub use statement::{Call, Override, Overrides, Statement, StatementKind, Statements};
 pub use tree::Tree;
+pub use update::{Line, Lines, Right};

@@ -15,6 +15,7 @@ pub enum Wrong {
     UnknownKeyword,
     BadAction,
     BadUpdate,
+    BadExpansion,
     TooMany,
     NotBuilt,
 }
@@ -27,6 +28,7 @@ fn fault_at(wrong: Wrong, place: Place) -> TreeFault
         Wrong::UnknownKeyword => TreeFault::UnknownKeyword(place),
         Wrong::BadAction => TreeFault::BadAction(place),
         Wrong::BadUpdate => TreeFault::BadUpdate(place),
+        Wrong::BadExpansion => TreeFault::BadExpansion(place),
         Wrong::TooMany => TreeFault::TooMany(place),
         Wrong::NotBuilt => TreeFault::NotBuilt(place),
     }

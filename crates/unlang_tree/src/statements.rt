@@ -137,8 +137,8 @@ fn update_statement(
 ) -> Result<Option<Statement>, TreeFault>
     ensures { Gives result (update_statement (site_of site.now) room place.now name.now body.now) }
 {
-    let edit = update_at(alloc, site.dict, room, place, name, body)?;
-    Ok(Some(statement(alloc, place, StatementKind::Update(edit))?))
+    let lines = update_at(alloc, site.dict, room, place, name, body)?;
+    Ok(Some(statement(alloc, place, StatementKind::Update(lines))?))
 }
 
 /// A block: an update, a statement that isn't built yet, or a call.
