@@ -1,9 +1,9 @@
 //! Users files, after users(5), and filter files: their entries, or the first fault at its line and column; which entries
 //! match a request; and what the module `files` does by them.
-//! The one model is `Users`, seen as the list of its entries in file order, each with its patterns compiled. The entries that
+//! The one model is `Users`, seen as the list of its entries in file order; a pattern means what its text does. The entries that
 //! match are those of `entries`, in order, each tried in the lists that those before it left; the code finds them by an index
 //! of names.
-//! Above it stand the sites whose authorize sections run `files`, and filters.
+//! Above it stand the sites, whose authorize sections run `files`, and filters.
 #![tactic(auto)]
 
 mod draft;

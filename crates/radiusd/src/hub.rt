@@ -42,8 +42,12 @@ where
     ghost use Rattle.rad_turn.specs.Sides.{view as known, IsOf};
     ghost use Rattle.radiusd.specs.HubSeen.{HubSeen};
     ghost use Rattle.radiusd.specs.History.{IsAlone, IsNumbered};
+    ghost use Rattle.std.specs.Coded.{codes};
+    ghost use Rattle.unlang_xlat.specs.contracts.part.Part as part;
 
     ghost Value = { HubSeen L };
+
+    ghost coded = { Prim.hlevel (codes, part.the_row.coded) };
 
     ghost view = { λ h. record {
       history = (known h.seat).seen;
