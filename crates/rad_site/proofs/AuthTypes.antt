@@ -17,6 +17,7 @@ use Rattle.rad_value.specs.declared.edits.ListName.TheVariants.{Request, Reply, 
 use Rattle.rad_value.specs.declared.values.Pair.{Pair}
 use Rattle.rad_value.specs.declared.values.Value.{Value}
 use Rattle.rad_value.specs.Comparison.{is_equal}
+use Rattle.rad_value.specs.declared.scope.Scope.{Scope}
 use Rattle.rad_value.specs.Edit.{has_attr, edited_by, is_full, tried, lists_edited}
 use Rattle.rad_value.specs.Pairs.{is_of, values_of, text_of, first_text}
 use Rattle.rad_value.specs.PairLists.{PairLists, list_of, with_list}
@@ -32,13 +33,19 @@ use Rattle.mod_auth.specs.Pap as pap
 use Rattle.mod_auth.specs.Chap as chap
 use Rattle.unlang_tree.specs.declared.statement.Statement.{Statement}
 use Rattle.unlang_code.specs.Leaves.{Leaf, Calls, Edits, EachLeaf, module_done, leaf_done, LeafKeeps}
-use Rattle.unlang_code.specs.Run.{updated_to, updated}
+use Rattle.unlang_tree.specs.declared.update.Line.{Line}
+use Rattle.unlang_tree.specs.declared.update.Right.{Right}
+use Rattle.unlang_tree.specs.declared.update.Right.TheVariants as right
+use Rattle.unlang_code.specs.declared.update.Said.{Said}
+use Rattle.unlang_code.specs.declared.update.Said.TheVariants as said
+use Rattle.unlang_code.specs.Updates.{said_by, edit_of, tried_to, done_with}
+use Rattle.unlang_code.specs.Frames.{same_list}
 use Rattle.rad_site.specs.declared.site_module.SiteModule.{SiteModule}
 use Rattle.rad_site.specs.declared.site_module.SiteModule.TheVariants as site
 use Rattle.rad_site.specs.Attributes.{auth_type}
 use Rattle.rad_site.specs.SiteModules.{site_module}
 use Rattle.rad_site.specs.SiteLaws.{site_module_lawful}
-use Rattle.rad_site.specs.Passwords.{is_accept, is_accept_value, edit_accepts, module_accepts, call_accepts, leaf_accepts, NeverAccept}
+use Rattle.rad_site.specs.Passwords.{is_accept, is_accept_value, edit_accepts, right_accepts, module_accepts, call_accepts, leaf_accepts, NeverAccept}
 
 abbrev IsOther : Value → Type 0
 IsOther value = is_accept_value value ≡ false
@@ -111,10 +118,31 @@ unfolding tried
 tried_never edit before lists other is all =
     subst Never (which_lists (is_full edit.op edit.attr (list_of before edit.list)) (lists_edited before edit) lists is) (edit_never edit before other all)
 
--- an update
-updated_never : (kind : Section) (edit : Edit) (s : Situation) (t : Option PairLists) → edit_accepts edit ≡ false → tried s.scope.lists edit ≡ t → Never s.scope.lists → Never (updated_to kind t s).situation.scope.lists
-updated_never kind edit s None other is all = all
-updated_never kind edit s (Some lists) other is all = tried_never edit s.scope.lists lists other is all
+-- a line of an update
+none_of_both : (a b c : Bool) → (a && b && true) ≡ false → (a && b && c) ≡ false
+none_of_both true true c is = absurd (cc)
+none_of_both true false c is = refl
+none_of_both false b c is = refl
+
+by_tried : (edit : Edit) (scope : Scope) (t : Option PairLists) → edit_accepts edit ≡ false → tried scope.lists edit ≡ t → Never scope.lists → Never (tried_to t scope).0.lists
+by_tried edit scope None other is all = all
+by_tried edit scope (Some lists) other is all = tried_never edit scope.lists lists other is all
+
+by_said : (line : Line) (s : Said) (scope : Scope) → ((v : Value) → s ≡ said.Value v → edit_accepts (edit_of line v) ≡ false) → Never scope.lists → Never (done_with line s scope).0.lists
+by_said line (said.Value v) scope other all = by_tried (edit_of line v) scope (tried scope.lists (edit_of line v)) (other v refl) refl all
+by_said line said.Nothing scope other all = all
+by_said line said.Unreadable scope other all = all
+
+by_right : (line : Line) (dict : Definitions) (scope : Scope) (r : Right) → (same_list line.list Control && same_attr auth_type line.attr.id && right_accepts r) ≡ false → Never scope.lists
+    → Never (done_with line (said_by dict line.attr r scope) scope).0.lists
+by_right line dict scope (right.Value value) other all =
+    by_said line (said.Value value) scope (λ v is. let same : value ≡ v = cc in subst (λ (w : Value). edit_accepts (edit_of line w) ≡ false) same other) all
+by_right line dict scope (right.Reference reference) other all =
+    by_said line (said_by dict line.attr (right.Reference reference) scope) scope
+    (λ v is. none_of_both (same_list line.list Control) (same_attr auth_type line.attr.id) (is_accept_value v) other) all
+by_right line dict scope (right.Expansion parts) other all =
+    by_said line (said_by dict line.attr (right.Expansion parts) scope) scope
+    (λ v is. none_of_both (same_list line.list Control) (same_attr auth_type line.attr.id) (is_accept_value v) other) all
 
 -- a module that sets Auth-Type to its own name
 set_or_fail : (edit : Edit) (answer : Code) (lists : PairLists) (t : Option PairLists) → edit_accepts edit ≡ false → tried lists edit ≡ t → Never lists → Never (after_edit lists (λ edited. (edited, answer)) t).0
@@ -162,7 +190,7 @@ call_never (Some m) dict kind s other all = module_never m dict kind s other all
 module _ (stack : List SiteModule) (dict : Definitions) (kind : Section) where
   leaf_never : (leaf : Leaf) → leaf_accepts stack leaf ≡ false → LeafKeeps Never site_module stack dict kind leaf
   leaf_never (Calls call) other s all = call_never (slice_get stack call.instance) dict kind s other all
-  leaf_never (Edits edit) other s all = updated_never kind edit s (tried s.scope.lists edit) other refl all
+  leaf_never (Edits line) other s all = by_right line dict s.scope line.right other all
 
   pub leaves_never : (leaves : List Leaf) → AllByRecursion (λ leaf. leaf_accepts stack leaf ≡ false) leaves → AllByRecursion (LeafKeeps Never site_module stack dict kind) leaves
   leaves_never [] all = tt

@@ -1,6 +1,6 @@
 -- What a server must have so that passwords, or answers to challenges, alone let requests in. This project's own, after
 -- FreeRADIUS' rlm_pap(5) and rlm_chap(5).
-use Rattle.std.specs.Prelude.{ℕ, ◌≡◌, ◌⊎◌, Bool, false, ◌&&◌, List, [], ◌∷◌, Option, Some, None, slice_get, codes}
+use Rattle.std.specs.Prelude.{ℕ, ◌≡◌, ◌⊎◌, Bool, true, false, ◌&&◌, List, [], ◌∷◌, Option, Some, None, slice_get, codes}
 use Rattle.std.specs.Str.{str_eq_ignore_ascii_case}
 use Rattle.rad_words.specs.Attribute.{same_attr}
 use Rattle.rad_value.specs.declared.edits.Edit.{Edit}
@@ -10,6 +10,9 @@ use Rattle.rad_value.specs.Pairs.{text_of}
 use Rattle.rad_words.specs.declared.sections.Section.TheVariants.{Authorize, Authenticate}
 use Rattle.mod_users.specs.Module as files
 use Rattle.unlang_tree.specs.declared.statement.Call.{Call}
+use Rattle.unlang_tree.specs.declared.update.Line.{Line}
+use Rattle.unlang_tree.specs.declared.update.Right.{Right}
+use Rattle.unlang_tree.specs.declared.update.Right.TheVariants as right
 use Rattle.unlang_tree.specs.declared.statement.Statement.{Statement}
 use Rattle.unlang_tree.specs.declared.statement.StatementKind.TheVariants as kind
 use Rattle.unlang_code.specs.declared.section_id.SectionId.{SectionId}
@@ -34,6 +37,16 @@ is_accept_value value = elim (text_of value) [ None ↦ false | Some text ↦ is
 abbrev pub edit_accepts : Edit → Bool
 edit_accepts edit = same_list edit.list Control && same_attr auth_type edit.attr && is_accept_value edit.value
 
+-- A right side of a line can come to `Accept`: a value that is it, and whatever isn't known before the line is done.
+abbrev pub right_accepts : Right → Bool
+right_accepts (right.Value value) = is_accept_value value
+right_accepts (right.Reference reference) = true
+right_accepts (right.Expansion parts) = true
+
+-- A line of an update can bring Auth-Type to `Accept`.
+abbrev pub line_accepts : Line → Bool
+line_accepts line = same_list line.list Control && same_attr auth_type line.attr.id && right_accepts line.right
+
 -- A module can bring Auth-Type to `Accept`: one whose users' items name Auth-Type, and one that sets it to its own name, where
 -- that is so.
 abbrev pub module_accepts : SiteModule → Bool
@@ -50,7 +63,7 @@ call_accepts (Some m) = module_accepts m
 -- So can a statement that does something by itself: a call, or a line of an update.
 abbrev pub leaf_accepts : List SiteModule → Leaf → Bool
 leaf_accepts stack (Calls call) = call_accepts (slice_get stack call.instance)
-leaf_accepts stack (Edits edit) = edit_accepts edit
+leaf_accepts stack (Edits line) = line_accepts line
 
 -- Nothing among these statements can.
 abbrev pub NeverAccept : List SiteModule → List Statement → Type 0

@@ -20,3 +20,4 @@ pub use laws::{
 pub use observer::{Observer, Silent};
 pub use section_id::SectionId;
 pub use table::{Table, compile};
+pub use update::Said;

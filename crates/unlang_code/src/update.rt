@@ -18,7 +18,7 @@ use unlang_tree::{Line, Right};
 
 /// What a line's right side comes to in a scope.
 #[derive(Debug, Drop)]
-pub(crate) enum Said {
+pub enum Said {
     /// A value of the line's attribute.
     Value(Value),
     /// A reference that names no value.
