@@ -13,13 +13,14 @@ use shared_cases::{Form, Tally};
 use std::process::ExitCode;
 
 /// The files of cases.
-const FILES: [&str; 7] = [
+const FILES: [&str; 8] = [
     "serving.cases",
     "repeats.cases",
     "failing.cases",
     "words.cases",
     "sites.cases",
     "users.cases",
+    "updates.cases",
     "dictionaries.cases",
 ];
 
