@@ -34,6 +34,7 @@ use Rattle.unlang_tree.specs.Statements.{counted_call, word_at, is_pair, with_ac
 use Rattle.unlang_tree.specs.Sections.{subsection_block, with_subsection, own_name, with_call, with_run, with_own, with_written, with_one, with_part, parts_of, section_block, with_section, with_item, server_of}
 use Rattle.unlang_tree.specs.Policies.{server_block, with_server, servers_of}
 use Rattle.unlang_tree.specs.EachCall.{calls_in, calls_of, EachCall, EachCallWithin, EachCallIn, EachCallOfSections, EachCallOf, IsMet}
+use Rattle.unlang_tree.proofs.CallsWithin.{calls_by_kind, calls_of_call, calls_of_update}
 use Rattle.unlang_tree.proofs.Binds.{ok_same, err_ok, bind_ok, past, passed, kept, all_both, all_wider}
 
 module _ (holds : Section → Call → Type 0) (section : Section) where
@@ -118,6 +119,11 @@ module _ (site : Site) where
   AreMetIf section None = Unit {0}
   AreMetIf section (Some one) = AllByRecursion (IsMet site.instances section) (calls_in one)
 
+  one_call_met : (section : Section) (place : Place) (call : Call) → IsMet site.instances section call → AreMetIf section (Some (record { place = place; kind = kinds.Call call }))
+  one_call_met section place call met =
+      let one : Statement = record { place = place; kind = kinds.Call call } in
+      subst (AllByRecursion (IsMet site.instances section)) (sym (calls_by_kind one ∙ calls_of_call call)) (met, tt)
+
   counted_met : (section : Section) (room : ℕ) (place : Place) (call : Option Call) (statement : Option Statement) → IsMetIf section call
       → counted_call room place call ≡ Ok statement → AreMetIf section statement
   unfolding counted_call
@@ -125,7 +131,7 @@ module _ (site : Site) where
   counted_met section room place (Some call) statement met e =
       let one : Statement = record { place = place; kind = kinds.Call call } in
       let last = bind_ok (one_more room place) (λ counted. Ok (Some one)) statement e in
-      subst (AreMetIf section) (ok_same (Some one) statement last.1.1) (met, tt)
+      subst (AreMetIf section) (ok_same (Some one) statement last.1.1) (one_call_met section place call met)
 
   word_met : (section : Section) (room : ℕ) (place : Place) (word : List ℕ) (statement : Option Statement)
       → word_at site section room place word ≡ Ok statement → AreMetIf section statement
@@ -142,7 +148,8 @@ module _ (site : Site) where
   actions_met section room place pairs (Some call) statement met e =
       let counted = bind_ok (one_more room place) (λ counted. overrides_of pairs >>= λ overrides. Ok (Some (record { place = place; kind = kinds.Call (record { instance = call.instance; overrides = overrides }) }))) statement e in
       let given = bind_ok (overrides_of pairs) (λ overrides. Ok (Some (record { place = place; kind = kinds.Call (record { instance = call.instance; overrides = overrides }) }))) statement counted.1.1 in
-      subst (AreMetIf section) (ok_same (Some (record { place = place; kind = kinds.Call (record { instance = call.instance; overrides = given.0 }) })) statement given.1.1) (met, tt)
+      subst (AreMetIf section) (ok_same (Some (record { place = place; kind = kinds.Call (record { instance = call.instance; overrides = given.0 }) })) statement given.1.1)
+      (one_call_met section place (record { instance = call.instance; overrides = given.0 }) met)
 
   call_block_met : (section : Section) (room : ℕ) (place : Place) (kind : List ℕ) (name : Option Word) (body : List Node) (statement : Option Statement)
       → call_block_at site section room place kind name body ≡ Ok statement → AreMetIf section statement
@@ -156,7 +163,9 @@ module _ (site : Site) where
       → update_statement site room place name body ≡ Ok statement → AreMetIf section statement
   update_met section room place name body statement e =
       let one = bind_ok (update_at site.dict room place name body) (λ edit. Ok (Some (record { place = place; kind = kinds.Update edit }))) statement e in
-      subst (AreMetIf section) (ok_same (Some (record { place = place; kind = kinds.Update one.0 })) statement one.1.1) tt
+      let edited : Statement = record { place = place; kind = kinds.Update one.0 } in
+      subst (AreMetIf section) (ok_same (Some edited) statement one.1.1)
+      (subst (AllByRecursion (IsMet site.instances section)) (sym (calls_by_kind edited ∙ calls_of_update one.0)) tt)
 
   either_met : (section : Section) (b : Bool) (left right : Result (Option Statement) TreeFault) (statement : Option Statement)
       → (left ≡ Ok statement → AreMetIf section statement) → (right ≡ Ok statement → AreMetIf section statement) → cond b left right ≡ Ok statement → AreMetIf section statement

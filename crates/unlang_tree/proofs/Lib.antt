@@ -2,4 +2,5 @@ mod InstanceLemmas
 mod Walks
 mod WrittenCalls
 mod Binds
+pub mod CallsWithin
 pub mod CallsMet

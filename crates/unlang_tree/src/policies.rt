@@ -48,9 +48,13 @@ pub struct Policies {
 impl Model for Policies {
     ghost use Rattle.std.specs.Prelude.{List};
     ghost use Rattle.std.specs.Arc.{arc_value};
+    ghost use Rattle.std.specs.Coded.{codes};
     ghost use Rattle.unlang_tree.specs.declared.policies.ServerTree.{ServerTree};
+    ghost use Rattle.unlang_tree.specs.contracts.statement.StatementKind as kind;
 
     ghost Value = { List ServerTree };
+
+    ghost coded = { Prim.hlevel (codes, kind.the_row.coded) };
 
     ghost view = { λ p. arc_value p.servers };
 }
