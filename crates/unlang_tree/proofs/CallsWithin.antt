@@ -1,17 +1,17 @@
 -- The calls of a statement by its kind: those of a block are those of its statements.
 use Rattle.std.proofs.Common.{◌≡◌, List, [], ◌∷◌, ◌++◌, map, refl, sym, ap, ◌∙◌}
-use Rattle.std.specs.List.{flat_map}
-use Rattle.rad_outside.specs.declared.files.Place.{Place}
 use Rattle.rad_value.specs.declared.edits.Edit.{Edit}
 use Rattle.unlang_tree.specs.declared.statement.Call.{Call}
-use Rattle.unlang_tree.specs.declared.statement.Group.{Group, out-Group}
+use Rattle.unlang_tree.specs.declared.statement.Group.{Group, out-Group, roll-Group, out-roll-Group}
+use Rattle.unlang_tree.specs.declared.statement.GroupForm.{GroupForm}
+use Rattle.unlang_tree.specs.declared.statement.Override.{Override}
 use Rattle.unlang_tree.specs.declared.statement.Statement.{Statement}
 use Rattle.unlang_tree.specs.declared.statement.StatementKind.{StatementKind}
 use Rattle.unlang_tree.specs.declared.statement.StatementKind.TheVariants as kinds
 use Rattle.unlang_tree.specs.declared.statement.StatementKind.TheVariants.{rolls-Call, rolls-Group, rolls-Return, rolls-Update}
-use Rattle.unlang_tree.specs.declared.statement.StatementKind.TheOpen.{StatementKind-F}
+use Rattle.unlang_tree.specs.declared.statement.StatementKind.TheOpen.{StatementKind-F, Group-F}
 use Rattle.unlang_tree.specs.declared.statement.StatementKind.TheOpen as level
-use Rattle.unlang_tree.specs.declared.statement.StatementKind.TheFolds.{fold-Group, fold_out-Group, fold_out-Statement, fold-roll-StatementKind}
+use Rattle.unlang_tree.specs.declared.statement.StatementKind.TheFolds.{fold_out-Group, fold_out-Statement, fold-roll-StatementKind}
 use Rattle.unlang_tree.specs.EachCall.{joined, kind_step, group_step, statement_step, calls_in_kind, calls_in, calls_of}
 
 -- a statement has the calls of its kind
@@ -41,3 +41,9 @@ pub calls_of_group : (group : Group) → calls_in_kind (kinds.Group group) ≡ c
 calls_of_group group =
     ap calls_in_kind (sym (rolls-Group group)) ∙ fold-roll-StatementKind (List Call) (List Call) (List Call) kind_step group_step statement_step (level.Group group)
     ∙ fold_out-Group (List Call) (List Call) (List Call) kind_step group_step statement_step group ∙ joined_calls (out-Group group).statements
+
+pub calls_of_made : (form : GroupForm) (overrides : List Override) (statements : List Statement)
+    → calls_in_kind (kinds.Group (roll-Group (record { form = form; overrides = overrides; statements = statements }))) ≡ calls_of statements
+calls_of_made form overrides statements =
+    calls_of_group (roll-Group (record { form = form; overrides = overrides; statements = statements }))
+    ∙ ap (λ (made : Group-F StatementKind Group Statement). calls_of made.statements) (out-roll-Group (record { form = form; overrides = overrides; statements = statements }))

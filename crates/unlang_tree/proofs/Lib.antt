@@ -1,5 +1,6 @@
 mod InstanceLemmas
 mod Walks
+mod GroupLevels
 mod WrittenCalls
 mod Binds
 pub mod CallsWithin

@@ -6,6 +6,7 @@ pub mod Calls
 pub mod Updates
 pub mod Sites
 pub mod Statements
+pub mod Groups
 pub mod Sections
 pub mod Policies
 pub mod EachCall

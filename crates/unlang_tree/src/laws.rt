@@ -7,7 +7,7 @@ ghost use Rattle.rad_conf.specs.declared.tree.Word.{Word};
 ghost use Rattle.rad_words.specs.declared.sections.Section.{Section as AnySection};
 ghost use Rattle.unlang_tree.specs.declared.statement.Statement.{Statement as AnyStatement};
 ghost use Rattle.unlang_tree.specs.Sites.{Site};
-ghost use Rattle.unlang_tree.specs.Statements.{statements_of};
+ghost use Rattle.unlang_tree.specs.Groups.{statements_of};
 ghost use Rattle.unlang_tree.specs.Policies.{servers_of};
 ghost use Rattle.unlang_tree.specs.declared.statement.Call.{Call as AnyCall};
 ghost use Rattle.unlang_tree.specs.declared.policies.ServerTree.{ServerTree};

@@ -9,6 +9,7 @@
 mod actions;
 mod calls;
 mod fault;
+mod groups;
 mod instances;
 mod laws;
 mod policies;
