@@ -2,6 +2,7 @@ mod InstanceLemmas
 mod Walks
 mod GroupLevels
 mod WrittenCalls
+mod WrittenBlocks
 mod Binds
 pub mod CallsWithin
 pub mod CallsMet

@@ -76,7 +76,7 @@ module _ (site : Site) (section : Section) where
   absent_called place name free none = rw free (rw none refl)
 
   -- the call of an instance, as the next statement
-  abbrev next_from : Node → ℕ → ℕ → Counted
+  abbrev pub next_from : Node → ℕ → ℕ → Counted
   next_from node number room = record { statement = call_from node number; room = room - 1 }
 
   counted : (room : ℕ) (place : Place) (call : Call) → 0 < room
@@ -103,20 +103,20 @@ module _ (site : Site) (section : Section) where
   unfolding counted_call
   none_counted room place = refl
 
-  statement_of_name : (room : ℕ) (node : Node) (name : List ℕ) (number : ℕ) → IsWord node name → is_optional name ≡ false → IsFree site section name name
+  pub statement_of_name : (room : ℕ) (node : Node) (name : List ℕ) (number : ℕ) → IsWord node name → is_optional name ≡ false → IsFree site section name name
       → IsCallable site section name number → 0 < room → statement_at site section room node ≡ Ok (Some (next_from node number room))
   statement_of_name room node name number spelled plain free callable some =
       word_called room node name (Some (plain_call number)) spelled free.no_statement
       (name_called node.place name plain ∙ ap (λ r. r >>= λ call. Ok (Some call)) (call_read node.place name number free.no_policy callable))
       ∙ counted room node.place (plain_call number) some
 
-  statement_of_optional : (room : ℕ) (node : Node) (name : List ℕ) (number : ℕ) → IsWord node (45 ∷ name) → IsFree site section (45 ∷ name) name
+  pub statement_of_optional : (room : ℕ) (node : Node) (name : List ℕ) (number : ℕ) → IsWord node (45 ∷ name) → IsFree site section (45 ∷ name) name
       → IsCallable site section name number → 0 < room → statement_at site section room node ≡ Ok (Some (next_from node number room))
   statement_of_optional room node name number spelled free callable some =
       word_called room node (45 ∷ name) (Some (plain_call number)) spelled free.no_statement (optional_called node.place name number free.no_policy callable)
       ∙ counted room node.place (plain_call number) some
 
-  statement_of_absent : (room : ℕ) (node : Node) (name : List ℕ) → IsWord node (45 ∷ name) → IsFree site section (45 ∷ name) name
+  pub statement_of_absent : (room : ℕ) (node : Node) (name : List ℕ) → IsWord node (45 ∷ name) → IsFree site section (45 ∷ name) name
       → number_of site.instances name ≡ None → statement_at site section room node ≡ Ok None
   statement_of_absent room node name spelled free none =
       word_called room node (45 ∷ name) None spelled free.no_statement (absent_called node.place name free.no_policy none) ∙ none_counted room node.place

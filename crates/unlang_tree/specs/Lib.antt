@@ -11,3 +11,4 @@ pub mod Sections
 pub mod Policies
 pub mod EachCall
 pub mod Written
+pub mod WrittenGroups
