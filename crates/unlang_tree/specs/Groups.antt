@@ -38,8 +38,8 @@ other_block site section levels room place kind name body =
 
 -- A block of this form, or another block. The name that may stand on a block of statements is passed over.
 abbrev pub formed_block : Opener → Site → Section → ℕ → ℕ → Place → List ℕ → Option Word → List Node → Option GroupForm → Result (Option Counted) TreeFault
-formed_block reader site section levels room place kind name body None = other_block site section levels room place kind name body
-formed_block reader site section levels room place kind name body (Some form) = reader room place form body >>= λ one. Ok (Some one)
+formed_block reader site where_it_stands levels room place kind name body None = other_block site where_it_stands levels room place kind name body
+formed_block reader site where_it_stands levels room place kind name body (Some form) = reader room place form body >>= λ one. Ok (Some one)
 
 -- A block: an update, a block of statements, a statement that isn't built yet, or a call.
 unfoldable pub block_by : Opener → Site → Section → ℕ → ℕ → Place → List ℕ → Option Word → List Node → Result (Option Counted) TreeFault
@@ -85,10 +85,10 @@ group_of form members = kinds.Group (roll-Group (record { form = form; overrides
 -- A block of statements, where so many blocks may be opened, its own among them: it is one statement, and its own statements
 -- count too.
 unfoldable pub group_at : Site → Section → ℕ → Opener
-group_at site section zero room place form body = Err (fault.TooDeep place)
-group_at site section (suc levels) room place form body = do
+group_at site where_it_stands zero room place form body = Err (fault.TooDeep place)
+group_at site where_it_stands (suc levels) room place form body = do
   done ← one_more room place
-  members ← after_each (with_member (group_at site section levels) site section levels) (no_members (room - 1)) body
+  members ← after_each (with_member (group_at site where_it_stands levels) site where_it_stands levels) (no_members (room - 1)) body
   Ok (with_room members.room place (group_of form members))
 
 -- The statement of a node directly in a section, where the server has room for so many more.
