@@ -23,8 +23,8 @@ use Rattle.unlang_tree.specs.Actions.{override_of, override_at, with_override}
 use Rattle.unlang_tree.specs.Statements.{one_statement, word_at, is_pair}
 use Rattle.unlang_tree.specs.Groups.{Opener, block_by, group_at, statement_by, statement_at, and_also, with_own_action, with_member, no_members, group_of}
 use Rattle.unlang_tree.specs.Written.{IsWord, IsBlock, call_from, Spell, nothing, by_name, by_dash, passed_over}
-use Rattle.unlang_tree.specs.WrittenGroups.{word_for, IsPair, group_from, return_from, SpellBlock, nothing_more, calls, returns, acts, nests}
-use Rattle.unlang_tree.proofs.GroupLevels.{opened_ok}
+use Rattle.unlang_tree.specs.WrittenGroups.{word_for, IsPair, group_from, return_from, SpellBlock, nothing_more, calls, returns, acts, nests, Around, alone, around}
+use Rattle.unlang_tree.proofs.GroupLevels.{no_level, opened_ok, opened_wrong}
 use Rattle.unlang_tree.proofs.WrittenCalls.{next_from, statement_of_name, statement_of_optional, statement_of_absent}
 
 module _ (site : Site) (section : Section) where
@@ -210,3 +210,36 @@ module _ (site : Site) (section : Section) where
       → IsBlock node (word_for kind) name body → SpellBlock site section 31 body own inner count → count < room
       → statement_at site section room node ≡ Ok (Some (record { statement = group_from node kind own inner; room = room - 1 - count }))
   group_written room node kind name body own inner count e spelled within = group_read 31 room node kind name body own inner count e (block_reads 31 body own inner count spelled) within
+
+  block_wrong : (opener : Opener) (levels room : ℕ) (node : Node) (kind : GroupForm) (name : Option Word) (body : List Node) (wrong : TreeFault) → IsBlock node (word_for kind) name body
+      → opener room node.place kind body ≡ Err wrong → statement_by opener site section levels room node ≡ Err wrong
+  unfolding statement_by
+  block_wrong opener levels room node kind name body wrong e read =
+      ap (λ item. elim item [
+        | level.Pair left operator right ↦ Err (fault.BadAction node.place)
+        | level.Name w ↦ word_at site section room node.place w.text
+        | level.Block k n b ↦ block_by opener site section levels room node.place k.text n b
+      ]) e
+      ∙ formed opener levels room node.place kind name body ∙ ap (λ r. r >>= λ (c : Counted). Ok (Some c)) read
+
+  first_wrong : (levels : ℕ) (known : Members) (node : Node) (nodes : List Node) (wrong : TreeFault) → is_pair node ≡ false
+      → statement_by (group_at site section levels) site section levels known.room node ≡ Err wrong → read_from levels known (node ∷ nodes) ≡ Err wrong
+  unfolding after_each with_member
+  first_wrong levels known node nodes wrong plain e = rw (plain, e) refl
+
+  around_no_pair : (levels : ℕ) (node last : Node) → Around levels node last → is_pair node ≡ false
+  around_no_pair _ _ _ (alone last kind name body e) = block_no_pair last (word_for kind) name body e
+  around_no_pair _ _ _ (around levels node inner last kind name rest e deeper) = block_no_pair node (word_for kind) name (inner ∷ rest) e
+
+  -- the last of blocks within one another, where no more may be opened
+  pub last_too_deep : (levels room : ℕ) (node last : Node) → Around levels node last → levels ≤ room
+      → statement_by (group_at site section levels) site section levels room node ≡ Err (fault.TooDeep last.place)
+  last_too_deep _ room _ _ (alone last kind name body e) within =
+      block_wrong (group_at site section 0) 0 room last kind name body (fault.TooDeep last.place) e (no_level site section 0 room last.place kind body refl)
+  last_too_deep _ room _ _ (around levels node inner last kind name rest e deeper) within =
+      let less : levels ≡ suc levels - 1 = omega arith in
+      block_wrong (group_at site section (suc levels)) (suc levels) room node kind name (inner ∷ rest) (fault.TooDeep last.place) e
+      (opened_wrong site section (suc levels) room (room - 1) node.place kind (inner ∷ rest) (fault.TooDeep last.place) (omega arith) (counted room node.place (omega (arith, within))) refl
+      (ap (λ n. read_from n (no_members (room - 1)) (inner ∷ rest)) (sym less)
+      ∙ first_wrong levels (no_members (room - 1)) inner rest (fault.TooDeep last.place) (around_no_pair levels inner last deeper)
+      (last_too_deep levels (room - 1) inner last deeper (omega (arith, within)))))

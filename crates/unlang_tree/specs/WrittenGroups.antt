@@ -53,3 +53,9 @@ pub data SpellBlock (site : Site) (section : Section) : ℕ → List Node → Li
       → IsBlock node (word_for form) name body → SpellBlock site section levels body actions members within
       → SpellBlock site section (suc levels) nodes own inner count
       → SpellBlock site section (suc levels) (node ∷ nodes) own (group_from node form actions members ∷ inner) (suc within + count)
+
+-- So many blocks stand around the last one: each is the first thing in the one before it.
+pub data Around : ℕ → Node → Node → Type 0 where
+  alone : (last : Node) (form : GroupForm) (name : Option Word) (body : List Node) → IsBlock last (word_for form) name body → Around 0 last last
+  around : (levels : ℕ) (node inner last : Node) (form : GroupForm) (name : Option Word) (rest : List Node)
+      → IsBlock node (word_for form) name (inner ∷ rest) → Around levels inner last → Around (suc levels) node last

@@ -13,7 +13,7 @@ ghost use Rattle.unlang_tree.specs.declared.statement.Call.{Call as AnyCall};
 ghost use Rattle.unlang_tree.specs.declared.policies.ServerTree.{ServerTree};
 ghost use Rattle.unlang_tree.specs.EachCall.{EachCall, EachCallOf, IsMet, Passes};
 ghost use Rattle.unlang_tree.specs.Written.{IsBlock, Spell, IsUnknown};
-ghost use Rattle.unlang_tree.specs.WrittenGroups.{word_for, group_from, SpellBlock};
+ghost use Rattle.unlang_tree.specs.WrittenGroups.{word_for, group_from, SpellBlock, Around};
 ghost use Rattle.unlang_tree.specs.declared.statement.GroupForm.{GroupForm as AnyForm};
 ghost use Rattle.unlang_tree.specs.declared.statement.Override.{Override as AnyOverride};
 
@@ -52,6 +52,13 @@ pub fn a_written_group_is_read()
     ensures { (site : Site) (section : AnySection) (room : ℕ) (node : Node) (form : AnyForm) (name : Option Word) (body : List Node) (own : List AnyOverride) (inner : List AnyStatement) (count : ℕ)
         → IsBlock node (word_for form) name body → SpellBlock site section 31 body own inner count → count < room
         → statement_at site section room node ≡ Ok (Some (record { statement = group_from node form own inner; room = room - 1 - count })) }
+{}
+
+/// A block of statements around which 32 others stand within one another, each the first thing in the one before it, is the
+/// fault TooDeep of its section, at the block's own place, wherever the server has room for the others.
+pub fn the_33rd_block_is_too_deep()
+    ensures { (site : Site) (section : AnySection) (room : ℕ) (node : Node) (last : Node)
+        → Around 32 node last → 32 ≤ room → statement_at site section room node ≡ Err (TreeFault.TooDeep last.place) }
 {}
 
 /// In the policies of a configuration each call is of an instance that is there and has a method for the section in which

@@ -27,8 +27,8 @@ pub use fault::{AddFault, TreeFault};
 pub use instances::Instances;
 pub use laws::{
     a_written_group_is_read, a_written_site_is_read, each_call_can_be_made,
-    the_first_unknown_word_is_the_fault, what_holds_of_each_call_can_be_widened,
-    written_calls_are_read,
+    the_33rd_block_is_too_deep, the_first_unknown_word_is_the_fault,
+    what_holds_of_each_call_can_be_widened, written_calls_are_read,
 };
 pub use mod_base::MethodSet;
 pub use policies::{Policies, SectionTree, Sections, ServerTree, Subsection, Subsections};
