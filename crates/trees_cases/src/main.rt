@@ -8,6 +8,7 @@ mod faults;
 mod given;
 mod instance_steps;
 mod trees;
+mod updates;
 
 use crate::configurations::TreeCases;
 use crate::instance_steps::InstanceCases;
@@ -20,6 +21,7 @@ fn main(rt: HostRuntime) -> ExitCode {
     tally.judge_file(rt, &mut InstanceCases, Form::Rows, "instances.cases");
     tally.judge_file(rt, &mut TreeCases, Form::Blocks, "trees.cases");
     tally.judge_file(rt, &mut TreeCases, Form::Blocks, "faults.cases");
+    tally.judge_file(rt, &mut TreeCases, Form::Blocks, "updates.cases");
     let mut wrong = Tally::new(rt.alloc());
     wrong.judge_file(rt, &mut InstanceCases, Form::Rows, "wrong_instances.cases");
     wrong.judge_file(rt, &mut TreeCases, Form::Blocks, "wrong_trees.cases");

@@ -1,12 +1,12 @@
 //! Source trees as text: each server as `NAME{..}`, in it each section as its name, its statements and its subsections
 //! and a semicolon. A statement is ` LINE:call NUMBER`, by the number of the instance, with `{CODE=ACTION ..}` where it has
-//! actions of its own, ` LINE:return`, ` LINE:Auth-Type NAME`, or ` LINE:FORM(..)` for a block of statements, with its own
+//! actions of its own, ` LINE:return`, ` LINE:update{..}` as `updates` says, or ` LINE:FORM(..)` for a block of statements, with its own
 //! actions before its statements. A subsection is ` [NAME..]` with its statements. No servers at all are `nothing`.
 
+use crate::updates::push_update;
 use rad_outside::NoMemory;
 use rad_tables::Action;
-use rad_value::{Edit, EditOp, ListName, Value};
-use rad_words::{Code, Section, Space};
+use rad_words::{Code, Section};
 use shared_cases::push_number;
 use std::alloc::Global;
 use unlang_tree::{GroupForm, Override, Policies, SectionTree, Statement, StatementKind};
@@ -96,9 +96,9 @@ fn push_statement(alloc: Global, to: &mut Vec<u8>, statement: &Statement) -> Res
             Ok(to.push(b')')?)
         }
         StatementKind::Return => Ok(to.extend_from_slice(b":return")?),
-        StatementKind::Update(edit) => {
-            to.extend_from_slice(b":")?;
-            push_edit(to, edit)
+        StatementKind::Update(lines) => {
+            to.push(b':')?;
+            push_update(alloc, to, lines.as_slice())
         }
     }
 }
@@ -150,23 +150,4 @@ fn name_of(code: Code) -> &'static [u8] {
         Code::Noop => b"noop",
         Code::Updated => b"updated",
     }
-}
-
-/// Writes an edit that sets Auth-Type in the control list, and `another edit` for any other.
-fn push_edit(to: &mut Vec<u8>, edit: &Edit) -> Result<(), NoMemory> {
-    match &edit.value {
-        Value::Text(name) if is_auth_type(edit) => {
-            to.extend_from_slice(b"Auth-Type ")?;
-            to.extend_from_slice(name.as_slice())?;
-            Ok(())
-        }
-        _ => Ok(to.extend_from_slice(b"another edit")?),
-    }
-}
-
-fn is_auth_type(edit: &Edit) -> bool {
-    edit.list == ListName::Control
-        && edit.op == EditOp::Set
-        && edit.attr.space == Space::Internal
-        && edit.attr.number == 1
 }

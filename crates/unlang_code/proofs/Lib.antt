@@ -5,3 +5,5 @@ pub mod Looping
 pub mod Finding
 pub mod FrameLaws
 pub mod Keeping
+pub mod Lines
+pub mod OtherLists

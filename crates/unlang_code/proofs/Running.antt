@@ -3,13 +3,8 @@ use Rattle.std.specs.Prelude.{slice_get, OnErr, IfOk, Result, Ok, Err}
 use Rattle.std.proofs.Common.{◌≡◌, Bool, true, false, List, [], ◌∷◌, ◌++◌, Option, Some, None, sym, ap, subst, ◌∙◌, append_assoc}
 use Rattle.std.proofs.lemmas.List.{append-nil}
 use Rattle.rad_words.specs.declared.codes.Code.{Code}
-use Rattle.rad_words.specs.declared.codes.Code.TheVariants as code
-use Rattle.rad_tables.specs.declared.group_kind.GroupKind.TheVariants.{Plain}
 use Rattle.rad_words.specs.declared.sections.Section.{Section}
 use Rattle.rad_value.specs.declared.scope.Scope.{Scope}
-use Rattle.rad_value.specs.declared.edits.Edit.{Edit}
-use Rattle.rad_value.specs.Edit.{tried}
-use Rattle.rad_value.specs.PairLists.{PairLists}
 use Rattle.rad_dict.specs.Definitions.{Definitions}
 use Rattle.rad_world.specs.Effects.{Effect, answers_of}
 use Rattle.rad_world.specs.World.{WorldState}
@@ -18,14 +13,14 @@ use Rattle.mod_base.specs.Situation.{Situation, situation_in}
 use Rattle.mod_base.specs.Meaning.{Meaning, IsLawful}
 use Rattle.mod_base.specs.Reaching.{Reaches, Stops}
 use Rattle.mod_base.proofs.Reached.{stops_then, stops_start}
+use Rattle.unlang_tree.specs.declared.update.Line.{Line}
 use Rattle.unlang_tree.specs.declared.statement.Call.{Call}
 use Rattle.unlang_tree.specs.declared.statement.Override.{Override}
 use Rattle.unlang_tree.specs.declared.statement.Statement.{Statement}
 use Rattle.unlang_tree.specs.declared.statement.StatementKind.{StatementKind}
 use Rattle.unlang_tree.specs.declared.statement.StatementKind.TheVariants as kinds
 use Rattle.unlang_code.specs.declared.judgement.Child.{Child}
-use Rattle.unlang_code.specs.Judgement.{child_of}
-use Rattle.unlang_code.specs.Run.{Outcome, with_lists, one_child, updated_to, updated, IsUpdateTo, IsUpdate, called_of, called, kind_done, statement_done, is_over, and_then, run_of}
+use Rattle.unlang_code.specs.Run.{Outcome, one_child, updated_with, updated, IsUpdate, called_of, called, kind_done, statement_done, is_over, and_then, run_of}
 
 -- what holds beside an error
 pub on_err : {T E P : Type 0} (result : Result T E) → P → OnErr result P
@@ -55,33 +50,15 @@ reaches_moved s0 s1 w meaning left same = record {
   same = λ later earlier. same later earlier ∙ ap (λ (effects : List Effect). left (situation_in s1 w later effects)) (sym (append-nil earlier));
 }
 
-same_child : (before now : Scope) (w : WorldState) (a b : Child) → now ≡ before → b ≡ a → (later : List Bool) (earlier : List Effect) → one_child a (situation_in before w later earlier) ≡ one_child b (situation_in now w later earlier)
-same_child before now w a b is_now is_child later earlier =
-    ap (λ (c : Child). one_child c (situation_in before w later earlier)) (sym is_child) ∙ ap (λ (n : Scope). one_child b (situation_in n w later earlier)) (sym is_now)
-
-updated_by : (kind : Section) (before now : Scope) (w : WorldState) (child : Child) (lists : Option PairLists) → IsUpdateTo kind lists before now child
-    → (later : List Bool) (earlier : List Effect) → updated_to kind lists (situation_in before w later earlier) ≡ one_child child (situation_in now w later earlier)
-updated_by kind before now w child None done later earlier = same_child before now w (child_of kind Plain [] code.Fail) child done.0 done.1 later earlier
-updated_by kind before now w child (Some lists) done later earlier = same_child (with_lists lists before) now w (child_of kind Plain [] code.Noop) child done.0 done.1 later earlier
-
 -- an update is what it means
-pub update_reaches : (kind : Section) (edit : Edit) (before now : Scope) (w : WorldState) (child : Child) → IsUpdate kind edit before now child → Reaches before w (updated kind edit) now w (one_child child)
-update_reaches kind edit before now w child done =
-    reaches_moved before now w (updated kind edit) (one_child child) (updated_by kind before now w child (tried before.lists edit) done)
+pub update_reaches : (dict : Definitions) (kind : Section) (lines : List Line) (before now : Scope) (w : WorldState) (child : Child) → IsUpdate dict kind lines before now child
+    → Reaches before w (updated dict kind lines) now w (one_child child)
+update_reaches dict kind lines before now w child done =
+    reaches_moved before now w (updated dict kind lines) (one_child child)
+    (λ later earlier. ap (λ (d : Scope × Bool). updated_with kind d (situation_in before w later earlier)) done.1 ∙ ap (λ (c : Child). one_child c (situation_in now w later earlier)) (sym done.2))
 
-update_grows_by : (kind : Section) (s : Situation) (lists : Option PairLists) → Grows s (updated_to kind lists s).situation
-update_grows_by kind s None = grows_alone s
-update_grows_by kind s (Some lists) = grows_alone s
-
-pub update_stops : (kind : Section) (edit : Edit) (before : Scope) (w : WorldState) → Stops before w (λ s. (updated kind edit s).situation.effects) w
-update_stops kind edit before w = stops_start before w (λ s. (updated kind edit s).situation.effects) (λ s. update_grows_by kind s (tried s.scope.lists edit))
-
-updated_in_time_by : (kind : Section) (before now : Scope) (child : Child) (lists : Option PairLists) → IsUpdateTo kind lists before now child → now.moment ≡ before.moment
-updated_in_time_by kind before now child None done = ap (λ (s : Scope). s.moment) done.0
-updated_in_time_by kind before now child (Some lists) done = ap (λ (s : Scope). s.moment) done.0
-
-pub update_keeps_time : (kind : Section) (edit : Edit) (before now : Scope) (child : Child) → IsUpdate kind edit before now child → now.moment ≡ before.moment
-update_keeps_time kind edit before now child done = updated_in_time_by kind before now child (tried before.lists edit) done
+pub update_stops : (dict : Definitions) (kind : Section) (lines : List Line) (before : Scope) (w : WorldState) → Stops before w (λ s. (updated dict kind lines s).situation.effects) w
+update_stops dict kind lines before w = stops_start before w (λ s. (updated dict kind lines s).situation.effects) (λ s. grows_alone s)
 
 module _ {M : Type 0} (meaning : Meaning M) (lawful : (m : M) (dict : Definitions) (method : Section) (s : Situation) → IsLawful (meaning.edits m) method s (meaning.does m dict method s).0) where
   -- a module's call keeps the moment
@@ -99,7 +76,7 @@ module _ {M : Type 0} (meaning : Meaning M) (lawful : (m : M) (dict : Definition
 
   kind_grows : (stack : List M) (dict : Definitions) (kind : Section) (statement : StatementKind) (s : Situation) → Grows s (kind_done meaning stack dict kind statement s).situation
   kind_grows stack dict kind (kinds.Call call) s = called_grows dict kind call.overrides (slice_get stack call.instance) s
-  kind_grows stack dict kind (kinds.Update edit) s = update_grows_by kind s (tried s.scope.lists edit)
+  kind_grows stack dict kind (kinds.Update lines) s = grows_alone s
 
   and_then_grows : (first : Outcome) (rest : Situation → Outcome) (t : Bool) → Grows first.situation (rest first.situation).situation → Grows first.situation (and_then t first rest).situation
   and_then_grows first rest true grows = grows_alone first.situation

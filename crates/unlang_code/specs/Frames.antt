@@ -7,6 +7,7 @@ use Rattle.rad_words.specs.Attribute.{same_attr}
 use Rattle.rad_value.specs.declared.edits.ListName.{ListName}
 use Rattle.rad_value.specs.declared.edits.ListName.TheVariants.{Request, Reply, Control}
 use Rattle.mod_base.specs.Meaning.{Meaning}
+use Rattle.unlang_tree.specs.declared.update.Line.{Line}
 use Rattle.unlang_tree.specs.declared.statement.Statement.{Statement}
 use Rattle.unlang_tree.specs.declared.statement.StatementKind.{StatementKind}
 use Rattle.unlang_tree.specs.declared.statement.StatementKind.TheVariants as kind
@@ -27,10 +28,18 @@ abbrev pub module_edits : {M : Type 0} → Meaning M → Option M → ListName �
 module_edits meaning None list attr = false
 module_edits meaning (Some m) list attr = meaning.edits m list attr
 
--- A call may edit what its module may, and an update its own attribute in its own list.
+-- A line of an update goes to a list.
+abbrev pub goes_to : ListName → Line → Bool
+goes_to list line = same_list line.list list
+
+-- A line of an update may edit its own attribute in its own list.
+abbrev pub line_edits : ListName → AttrId → Line → Bool
+line_edits list attr line = same_list line.list list && same_attr attr line.attr.id
+
+-- A call may edit what its module may, and an update what one of its lines may.
 abbrev pub kind_edits : {M : Type 0} → Meaning M → List M → ListName → AttrId → StatementKind → Bool
 kind_edits meaning stack list attr (kind.Call call) = module_edits meaning (slice_get stack call.instance) list attr
-kind_edits meaning stack list attr (kind.Update edit) = same_list edit.list list && same_attr attr edit.attr
+kind_edits meaning stack list attr (kind.Update lines) = list_any (line_edits list attr) lines
 
 -- Statements may edit what one of them may.
 abbrev pub edits_of : {M : Type 0} → Meaning M → List M → List Statement → ListName → AttrId → Bool

@@ -1,5 +1,6 @@
 pub mod Judgement
 pub mod Sections
+pub mod Updates
 pub mod Run
 pub mod Serving
 pub mod Frames

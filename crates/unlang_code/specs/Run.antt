@@ -6,12 +6,10 @@ use Rattle.rad_words.specs.declared.codes.Code.TheVariants as code
 use Rattle.rad_words.specs.declared.sections.Section.{Section}
 use Rattle.rad_tables.specs.declared.group_kind.GroupKind.TheVariants.{Plain}
 use Rattle.rad_value.specs.declared.scope.Scope.{Scope}
-use Rattle.rad_value.specs.declared.edits.Edit.{Edit}
-use Rattle.rad_value.specs.Edit.{tried}
-use Rattle.rad_value.specs.PairLists.{PairLists}
 use Rattle.rad_dict.specs.Definitions.{Definitions}
 use Rattle.mod_base.specs.Situation.{Situation}
 use Rattle.mod_base.specs.Meaning.{Meaning}
+use Rattle.unlang_tree.specs.declared.update.Line.{Line}
 use Rattle.unlang_tree.specs.declared.statement.Call.{Call}
 use Rattle.unlang_tree.specs.declared.statement.Override.{Override}
 use Rattle.unlang_tree.specs.declared.statement.Statement.{Statement}
@@ -22,6 +20,7 @@ use Rattle.unlang_code.specs.declared.judgement.Child.{Child}
 use Rattle.unlang_code.specs.declared.section_id.SectionId.{SectionId}
 use Rattle.unlang_code.specs.Judgement.{child_of, ends, judged, default_code}
 use Rattle.unlang_code.specs.Sections.{statements_of}
+use Rattle.unlang_code.specs.Updates.{lines_done}
 
 -- How a run goes on behind a statement: with the next one, behind the innermost loop, or behind the section.
 pub data Signal : Type 0 where
@@ -48,10 +47,6 @@ in_scope scope situation = record situation { scope = scope }
 abbrev pub with_last : Code → Scope → Scope
 with_last answer scope = record scope { last = Some answer }
 
--- The scope with these lists.
-abbrev pub with_lists : PairLists → Scope → Scope
-with_lists lists scope = record scope { lists = lists }
-
 -- The scope as a section begins: without a last code and without the values of loops.
 abbrev pub begun : Scope → Scope
 begun scope = record scope { last = None; loops = replicate 8 None }
@@ -64,15 +59,18 @@ one_child child situation = record { situation = situation; signal = Goes; child
 abbrev pub nothing : Situation → Outcome
 nothing situation = record { situation = situation; signal = Goes; children = [] }
 
--- An update that leaves these lists, or none where a list is full for its edit: noop, or fail and the lists as they were.
--- It doesn't set the last code.
-abbrev pub updated_to : Section → Option PairLists → Situation → Outcome
-updated_to where_it_stands None situation = one_child (child_of where_it_stands Plain [] code.Fail) situation
-updated_to where_it_stands (Some lists) situation = one_child (child_of where_it_stands Plain [] code.Noop) (in_scope (with_lists lists situation.scope) situation)
+-- The code of an update: noop where each of its lines was done, else fail.
+abbrev pub update_code : Bool → Code
+update_code true = code.Noop
+update_code false = code.Fail
 
--- An update by an edit.
-abbrev pub updated : Section → Edit → Situation → Outcome
-updated section edit situation = updated_to section (tried situation.scope.lists edit) situation
+-- An update that came to a scope. It gives a child and doesn't set the last code.
+abbrev pub updated_with : Section → Scope × Bool → Situation → Outcome
+updated_with where_it_stands done situation = one_child (child_of where_it_stands Plain [] (update_code done.1)) (in_scope done.0 situation)
+
+-- An update: its lines in order, up to the first that can't be done.
+abbrev pub updated : Definitions → Section → List Line → Situation → Outcome
+updated dict section lines situation = updated_with section (lines_done dict lines situation.scope) situation
 
 -- A call that came to a situation and a code: it is the last code, and the code of a child.
 abbrev pub called_with : Section → List Override → Situation × Code → Outcome
@@ -90,7 +88,7 @@ called meaning stack dict section call = called_of meaning dict section call.ove
 -- What a kind of statement means.
 abbrev pub kind_done : {M : Type 0} → Meaning M → List M → Definitions → Section → StatementKind → Situation → Outcome
 kind_done meaning stack dict where_it_stands (kind.Call call) = called meaning stack dict where_it_stands call
-kind_done meaning stack dict where_it_stands (kind.Update edit) = updated where_it_stands edit
+kind_done meaning stack dict where_it_stands (kind.Update lines) = updated dict where_it_stands lines
 
 -- What a statement means.
 abbrev pub statement_done : {M : Type 0} → Meaning M → List M → Definitions → Section → Statement → Situation → Outcome
@@ -129,10 +127,6 @@ section_done meaning stack dict section statements situation = judged_in section
 abbrev pub section_of : {M : Type 0} → Meaning M → List M → Definitions → List ServerTree → SectionId → Situation → Situation × Code
 section_of meaning stack dict servers id = section_done meaning stack dict id.section (unwrap_or (statements_of servers id) [])
 
--- An update of the lists of a scope, and the child that it gives.
-abbrev pub IsUpdateTo : Section → Option PairLists → Scope → Scope → Child → Type 0
-IsUpdateTo where_it_stands None before now child = (now ≡ before) × (child ≡ child_of where_it_stands Plain [] code.Fail)
-IsUpdateTo where_it_stands (Some lists) before now child = (now ≡ with_lists lists before) × (child ≡ child_of where_it_stands Plain [] code.Noop)
-
-abbrev pub IsUpdate : Section → Edit → Scope → Scope → Child → Type 0
-IsUpdate section edit before now child = IsUpdateTo section (tried before.lists edit) before now child
+-- An update of a scope came to this scope, and gave this child.
+abbrev pub IsUpdate : Definitions → Section → List Line → Scope → Scope → Child → Type 0
+IsUpdate dict section lines before now child = (done : Bool) × (lines_done dict lines before ≡ (now, done)) × (child ≡ child_of section Plain [] (update_code done))

@@ -18,7 +18,7 @@ IsServed {M} meaning stack section call = (m : M) × (slice_get stack call.insta
 
 abbrev pub IsKindServed : {M : Type 0} → Meaning M → List M → Section → StatementKind → Type 0
 IsKindServed meaning stack where_it_stands (kind.Call call) = IsServed meaning stack where_it_stands call
-IsKindServed meaning stack where_it_stands (kind.Update edit) = Unit {0}
+IsKindServed meaning stack where_it_stands (kind.Update lines) = Unit {0}
 
 -- Each call of statements is served.
 abbrev pub AreServed : {M : Type 0} → Meaning M → List M → Section → List Statement → Type 0

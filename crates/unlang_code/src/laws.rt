@@ -11,10 +11,11 @@ ghost use Rattle.rad_value.specs.PairLists.{PairLists, list_of};
 ghost use Rattle.rad_value.specs.Pairs.{values_of};
 ghost use Rattle.rad_dict.specs.Definitions.{Definitions};
 ghost use Rattle.mod_base.specs.Situation.{Situation};
+ghost use Rattle.unlang_tree.specs.declared.update.Line.{Line};
 ghost use Rattle.unlang_tree.specs.declared.statement.Statement.{Statement};
-ghost use Rattle.unlang_code.specs.Frames.{edits_of};
+ghost use Rattle.unlang_code.specs.Frames.{edits_of, goes_to};
 ghost use Rattle.unlang_code.specs.Leaves.{EachLeaf, LeafKeeps};
-ghost use Rattle.unlang_code.specs.Run.{section_done};
+ghost use Rattle.unlang_code.specs.Run.{section_done, updated};
 ghost use Rattle.rad_tables.specs.declared.action_table.Action.TheVariants as action;
 ghost use Rattle.unlang_tree.specs.declared.policies.ServerTree.{ServerTree};
 ghost use Rattle.unlang_code.specs.declared.section_id.SectionId.{SectionId};
@@ -45,6 +46,13 @@ pub fn found_sections_stand()
 pub fn sections_keep_their_frames<M: Module>()
     ensures { (stack : List M) (dict : Definitions) (kind : Section) (statements : List Statement) (situation : Situation) (list : ListName) (attr : AttrId) → edits_of M.meaning stack statements list attr ≡ false
         → values_of attr (list_of (section_done M.meaning stack dict kind statements situation).0.scope.lists list) ≡ values_of attr (list_of situation.scope.lists list) }
+{}
+
+/// An update leaves each list to which none of its lines goes, whatever the request; so one whose lines all go to one list
+/// leaves the other two.
+pub fn updates_leave_other_lists()
+    ensures { (dict : Definitions) (kind : Section) (lines : List Line) (situation : Situation) (list : ListName) → list_any (goes_to list) lines ≡ false
+        → list_of (updated dict kind lines situation).situation.scope.lists list ≡ list_of situation.scope.lists list }
 {}
 
 /// A fact of the three lists of a request, for the law below.

@@ -5,17 +5,17 @@
 //! Above it stand the programs that serve requests.
 #![tactic(auto)]
 
-mod copy;
 mod judgement;
 mod laws;
 mod observer;
 mod run;
 mod section_id;
 mod table;
+mod update;
 
 pub use laws::{
     ListFact, found_sections_stand, groups_answer_as_their_children, sections_keep_their_frames,
-    sections_keep_what_their_statements_keep,
+    sections_keep_what_their_statements_keep, updates_leave_other_lists,
 };
 pub use observer::{Observer, Silent};
 pub use section_id::SectionId;

@@ -4,19 +4,20 @@ ghost use Rattle.std.specs.Prelude.{◌≡◌, true, IfOk, OnOk, OnErr};
 ghost use Rattle.rad_words.specs.declared.sections.Section.TheVariants.{Accounting};
 ghost use Rattle.rad_outside.specs.Moments.{IsInTime};
 ghost use Rattle.mod_base.specs.Reaching.{Reaches, Stops};
-ghost use Rattle.unlang_code.specs.Run.{called, updated, one_child, IsUpdate, statement_done, section_done};
+ghost use Rattle.unlang_code.specs.Run.{called, updated, update_code, one_child, IsUpdate, statement_done, section_done};
 ghost use Rattle.unlang_code.specs.Serving.{IsServed, IsKindServed, AreServed};
 
 use crate::judgement::{Child, child_of, default_code, ended_by, heavier_of};
 use crate::observer::Observer;
+use crate::update::do_lines;
 use mod_base::{Module, Stack, World};
 use rad_dict::Dict;
 use rad_outside::NoMemory;
 use rad_tables::GroupKind;
-use rad_value::{Edit, Scope};
+use rad_value::Scope;
 use rad_words::{Code, Section};
 use std::alloc::Global;
-use unlang_tree::{Call, Statement, StatementKind};
+use unlang_tree::{Call, Line, Statement, StatementKind};
 
 /// Calls a module, whose code is the last code.
 fn call<M: Module, W: World>(
@@ -44,15 +45,26 @@ fn call<M: Module, W: World>(
 }
 
 /// Does an update.
-fn update(section: Section, edit: &Edit, scope: &mut Scope) -> Result<Child, NoMemory>
-    ensures { IfOk result (λ child. IsUpdate section edit.now scope.old scope.new child) }
+fn update(
+    alloc: Global,
+    section: Section,
+    lines: &[Line],
+    scope: &mut Scope,
+    dict: &Dict,
+) -> Result<Child, NoMemory>
+    requires { IsInTime scope.old.moment }
+    ensures done { IfOk result (λ child. IsUpdate dict.now section lines.now scope.old scope.new child) }
+    ensures in_time { OnOk result (IsInTime scope.new.moment) }
 {
-    let code = if scope.lists.try_update(edit)? {
-        Code::Noop
-    } else {
-        Code::Fail
-    };
-    Ok(child_of(section, GroupKind::Plain, &[], code))
+    let done = do_lines(alloc, lines, scope, dict)?;
+    Ok(child_of(section, GroupKind::Plain, &[], update_code(done)))
+}
+
+/// The code of an update by whether all its lines were done.
+fn update_code(done: bool) -> Code
+    ensures { result ≡ update_code done }
+{
+    if done { Code::Noop } else { Code::Fail }
 }
 
 /// Does a statement.
@@ -74,7 +86,7 @@ fn do_statement<M: Module, W: World>(
 {
     match &statement.kind {
         StatementKind::Call(called) => call(alloc, stack, section, called, scope, world, dict),
-        StatementKind::Update(edit) => update(section, edit, scope),
+        StatementKind::Update(lines) => update(alloc, section, lines.as_slice(), scope, dict),
     }
 }
 

@@ -11,7 +11,6 @@ use Rattle.rad_conf.specs.Tree.{Layer}
 use Rattle.rad_conf.specs.declared.tree.Item.TheOpen as level
 use Rattle.rad_words.specs.declared.sections.Section.{Section}
 use Rattle.rad_words.specs.declared.sections.Section.TheVariants as which
-use Rattle.rad_value.specs.declared.edits.Edit.{Edit}
 use Rattle.rad_text.specs.Read.{◌>>=◌}
 use Rattle.unlang_tree.specs.declared.fault.TreeFault.{TreeFault}
 use Rattle.unlang_tree.specs.declared.fault.TreeFault.TheVariants as fault
@@ -21,6 +20,7 @@ use Rattle.unlang_tree.specs.declared.statement.StatementKind.{StatementKind}
 use Rattle.unlang_tree.specs.declared.statement.StatementKind.TheVariants as kinds
 use Rattle.unlang_tree.specs.declared.statement.GroupForm.{GroupForm}
 use Rattle.unlang_tree.specs.declared.statement.Override.{Override}
+use Rattle.unlang_tree.specs.declared.update.Line.{Line}
 use Rattle.unlang_tree.specs.declared.statements.Counted.{Counted}
 use Rattle.unlang_tree.specs.declared.groups.Members.{Members}
 use Rattle.unlang_tree.specs.declared.policies.Subsection.{Subsection}
@@ -188,7 +188,7 @@ module _ (site : Site) where
       → update_statement site levels room place name body ≡ Ok statement → AreMetIf section statement
   unfolding update_statement
   update_met section levels room place name body statement e =
-      let last : Edit → Result (Option Counted) TreeFault = λ edit. Ok (Some (with_room (room - 1) place (kinds.Update edit))) in
+      let last : List Line → Result (Option Counted) TreeFault = λ lines. Ok (Some (with_room (room - 1) place (kinds.Update lines))) in
       let opened = bind_ok (one_deeper levels place) (λ opened. update_at site.dict room place name body >>= last) statement e in
       let one = bind_ok (update_at site.dict room place name body) last statement opened.1.1 in
       subst (AreMetIf section) (ok_same (Some (with_room (room - 1) place (kinds.Update one.0))) statement one.1.1)

@@ -1,6 +1,6 @@
 -- The calls of a statement by its kind: those of a block are those of its statements.
 use Rattle.std.proofs.Common.{◌≡◌, List, [], ◌∷◌, ◌++◌, map, refl, sym, ap, ◌∙◌}
-use Rattle.rad_value.specs.declared.edits.Edit.{Edit}
+use Rattle.unlang_tree.specs.declared.update.Line.{Line}
 use Rattle.unlang_tree.specs.declared.statement.Call.{Call}
 use Rattle.unlang_tree.specs.declared.statement.Group.{Group, out-Group, roll-Group, out-roll-Group}
 use Rattle.unlang_tree.specs.declared.statement.GroupForm.{GroupForm}
@@ -28,9 +28,9 @@ pub calls_of_return : calls_in_kind kinds.Return ≡ []
 calls_of_return =
     ap calls_in_kind (sym rolls-Return) ∙ fold-roll-StatementKind (List Call) (List Call) (List Call) kind_step group_step statement_step level.Return
 
-pub calls_of_update : (edit : Edit) → calls_in_kind (kinds.Update edit) ≡ []
-calls_of_update edit =
-    ap calls_in_kind (sym (rolls-Update edit)) ∙ fold-roll-StatementKind (List Call) (List Call) (List Call) kind_step group_step statement_step (level.Update edit)
+pub calls_of_update : (lines : List Line) → calls_in_kind (kinds.Update lines) ≡ []
+calls_of_update lines =
+    ap calls_in_kind (sym (rolls-Update lines)) ∙ fold-roll-StatementKind (List Call) (List Call) (List Call) kind_step group_step statement_step (level.Update lines)
 
 joined_calls : (statements : List Statement) → joined (map calls_in statements) ≡ calls_of statements
 joined_calls [] = refl

@@ -24,7 +24,7 @@ abbrev pub kind_step : StatementKind-F (List Call) (List Call) (List Call) → L
 kind_step (level.Call call) = call ∷ []
 kind_step (level.Group group) = group
 kind_step level.Return = []
-kind_step (level.Update edit) = []
+kind_step (level.Update lines) = []
 
 abbrev pub group_step : Group-F (List Call) (List Call) (List Call) → List Call
 group_step group = joined group.statements

@@ -69,7 +69,7 @@ own_name node kind = elim (out-StatementKind kind) [
   | opened.Call call ↦ name_called node
   | opened.Group group ↦ None
   | opened.Return ↦ None
-  | opened.Update edit ↦ None
+  | opened.Update lines ↦ None
 ]
 
 -- The subsections with a call that stands for one. Another statement is counted, and is never run.

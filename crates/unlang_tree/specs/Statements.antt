@@ -69,5 +69,5 @@ call_block_at site section levels room place kind name body =
 unfoldable pub update_statement : Site → ℕ → ℕ → Place → Option Word → List Node → Result (Option Counted) TreeFault
 update_statement site levels room place name body = do
   opened ← one_deeper levels place
-  edit ← update_at site.dict room place name body
-  Ok (Some (with_room (room - 1) place (kinds.Update edit)))
+  lines ← update_at site.dict room place name body
+  Ok (Some (with_room (room - 1) place (kinds.Update lines)))

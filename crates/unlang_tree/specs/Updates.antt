@@ -1,7 +1,7 @@
--- Updates of lists, `update list { lines }`. After the manual page unlang(5); which of them are built is this project's own:
--- one line of the control list, `Auth-Type := NAME`, with or without `&`.
-use Rattle.std.specs.Prelude.{ℕ, Bool, true, false, not, ◌&&◌, ◌||◌, ◌==◌, List, [], ◌∷◌, drop, slice_index, Option, Some, None, Result, Ok, Err, codes, if◌then◌else◌}
-use Rattle.std.specs.List.{list_any}
+-- Updates of lists, `update list { lines }`, after the manual page unlang(5). That a line's faults are found from its left to its
+-- right, and that what stands behind `!*` is passed over, are this project's own.
+use Rattle.std.specs.Prelude.{ℕ, Bool, true, false, ◌==◌, List, [], ◌∷◌, ◌++◌, drop, take, length, slice_index, Option, Some, None, unwrap_or, Result, Ok, Err, codes, if◌then◌else◌}
+use Rattle.std.specs.Option.{option_map}
 use Rattle.std.specs.Str.{bytes_eq, str_eq_ignore_ascii_case}
 use Rattle.rad_outside.specs.declared.files.Place.{Place}
 use Rattle.rad_conf.specs.declared.tree.Quote.{Quote}
@@ -10,22 +10,29 @@ use Rattle.rad_conf.specs.declared.tree.Word.{Word}
 use Rattle.rad_conf.specs.declared.tree.Node.{Node}
 use Rattle.rad_conf.specs.declared.tree.Item.{out-Item}
 use Rattle.rad_conf.specs.declared.tree.Item.TheOpen as level
-use Rattle.rad_words.specs.declared.attributes.AttrId.{AttrId}
-use Rattle.rad_words.specs.declared.attributes.Space.TheVariants.{Internal}
-use Rattle.rad_words.specs.Attribute.{same_attr}
-use Rattle.rad_value.specs.declared.values.Value.{Value}
-use Rattle.rad_value.specs.declared.edits.Edit.{Edit}
+use Rattle.rad_value.specs.declared.values.Value.TheVariants as value
 use Rattle.rad_value.specs.declared.edits.ListName.{ListName}
 use Rattle.rad_value.specs.declared.edits.ListName.TheVariants as list
+use Rattle.rad_value.specs.declared.edits.EditOp.{EditOp}
 use Rattle.rad_value.specs.declared.edits.EditOp.TheVariants as op
 use Rattle.rad_dict.specs.Definitions.{Definitions}
 use Rattle.rad_pairs.specs.declared.attr_reading.AttrKind.{AttrKind}
-use Rattle.rad_pairs.specs.AttrNames.{named}
 use Rattle.rad_pairs.specs.ValueReading.{value_of}
 use Rattle.rad_text.specs.Read.{◌>>=◌, found}
+use Rattle.unlang_reference.specs.declared.reference.Reference.{Reference}
+use Rattle.unlang_reference.specs.declared.reference.Which.{Which}
+use Rattle.unlang_reference.specs.declared.reference.Which.TheVariants.{Nth, All, Count}
+use Rattle.unlang_reference.specs.declared.reading.NoReference.{NoReference}
+use Rattle.unlang_reference.specs.Reading.{reference_of, named_alone}
+use Rattle.unlang_xlat.specs.declared.part.Part.{Part}
+use Rattle.unlang_xlat.specs.declared.fault.XlatFault.{XlatFault}
+use Rattle.unlang_xlat.specs.Faults.{parsed}
 use Rattle.unlang_tree.specs.declared.fault.TreeFault.{TreeFault}
 use Rattle.unlang_tree.specs.declared.fault.TreeFault.TheVariants as fault
-use Rattle.unlang_tree.specs.Readings.{one_more}
+use Rattle.unlang_tree.specs.declared.update.Right.{Right}
+use Rattle.unlang_tree.specs.declared.update.Right.TheVariants as right
+use Rattle.unlang_tree.specs.declared.update.Line.{Line}
+use Rattle.unlang_tree.specs.Readings.{one_more, after_each}
 
 -- The list of a name.
 unfoldable pub list_named : List ℕ → Option ListName
@@ -35,90 +42,127 @@ list_named word =
     else (if str_eq_ignore_ascii_case word (codes "control") then Some list.Control
     else None))
 
--- The attribute that decides how a user is authenticated.
-abbrev pub auth_type : AttrId
-auth_type = record { space = Internal; number = 1 }
-
 -- A line's left side without the `&` that may stand before it.
 abbrev pub without_ampersand : List ℕ → List ℕ
 without_ampersand text = if slice_index text 0 == 38 then drop 1 text else text
 
--- Whether a left side names a list of its own, `list:Attr`.
-abbrev pub names_list : List ℕ → Bool
-names_list text = list_any (λ (c : ℕ). c == 58) text
+-- Whether a text begins with a prefix, case aside.
+abbrev pub begins_with : List ℕ → List ℕ → Bool
+begins_with prefix text = str_eq_ignore_ascii_case (take (length prefix) text) prefix
 
--- The attribute of a line's left side.
-unfoldable pub left_at : Definitions → Place → List ℕ → Result AttrKind TreeFault
-left_at dict place text =
-    if names_list text then Err (fault.NotBuilt place)
-    else elim (named (without_ampersand text) dict) [
-      | None ↦ Err (fault.BadUpdate place)
-      | Some attr ↦ if same_attr attr.id auth_type then Ok attr else Err (fault.NotBuilt place)
-    ]
+-- The list that a left side names before its attribute.
+unfoldable pub list_in : List ℕ → Option ListName
+list_in text =
+    if begins_with (codes "request:") text then Some list.Request
+    else (if begins_with (codes "reply:") text then Some list.Reply
+    else (if begins_with (codes "control:") text then Some list.Control
+    else None))
 
--- Whether a text is an operator of an update's line.
-abbrev pub is_operator : List ℕ → Bool
-is_operator text =
-    bytes_eq text (codes ":=") || bytes_eq text (codes "=") || bytes_eq text (codes "+=")
-    || bytes_eq text (codes "-=") || bytes_eq text (codes "==") || bytes_eq text (codes "!*")
+-- The list and the attribute of a left side, `[list:]Attr`: where it names no list, that of its block. A place behind the name
+-- is none of an attribute's.
+unfoldable pub left_of : Definitions → ListName → List ℕ → Option (ListName × AttrKind)
+left_of dict block text = option_map (λ (reference : Reference). (unwrap_or (list_in text) block, reference.attr)) (named_alone text dict)
+
+-- The same at the line's place.
+unfoldable pub left_at : Definitions → ListName → Place → List ℕ → Result (ListName × AttrKind) TreeFault
+left_at dict block place text = found (fault.BadUpdate place) (left_of dict block (without_ampersand text))
+
+-- The edit that an operator stands for.
+unfoldable pub operator_of : List ℕ → Option EditOp
+operator_of text =
+    if bytes_eq text (codes "=") then Some op.AddIfNone
+    else (if bytes_eq text (codes ":=") then Some op.Set
+    else (if bytes_eq text (codes "+=") then Some op.Append
+    else (if bytes_eq text (codes "-=") then Some op.Remove
+    else (if bytes_eq text (codes "!*") then Some op.RemoveAll
+    else (if bytes_eq text (codes "==") then Some op.Keep
+    else None)))))
 
 -- The operator of a line.
-unfoldable pub operator_at : Place → List ℕ → Result (Unit {0}) TreeFault
-operator_at place text =
-    if not (is_operator text) then Err (fault.BadUpdate place)
-    else (if bytes_eq text (codes ":=") then Ok tt else Err (fault.NotBuilt place))
+unfoldable pub operator_at : Place → List ℕ → Result EditOp TreeFault
+operator_at place text = found (fault.BadUpdate place) (operator_of text)
 
--- Whether an expansion stands in a text: `%{`.
-unfoldable pub has_expansion : List ℕ → Bool
-has_expansion [] = false
-has_expansion (c ∷ rest) = if c == 37 && slice_index rest 0 == 123 then true else has_expansion rest
+-- The operator takes an attribute's values away, whatever they are.
+abbrev pub clears : EditOp → Bool
+clears op.AddIfNone = false
+clears op.Set = false
+clears op.Append = false
+clears op.Remove = false
+clears op.RemoveAll = true
+clears op.Keep = false
 
-abbrev pub is_bare : Quote → Bool
-is_bare Bare = true
-is_bare Single = false
-is_bare Double = false
+-- A reference means the number of an attribute's values.
+abbrev pub is_count : Which → Bool
+is_count (Nth n) = false
+is_count All = false
+is_count Count = true
 
--- A word that stands for its text: without quotes, without an expansion, and no reference.
-abbrev pub is_literal : Word → Bool
-is_literal word = is_bare word.quote && not (has_expansion word.text) && not (slice_index word.text 0 == 38)
+-- A literal, read as a value of the line's attribute.
+unfoldable pub literal_at : Definitions → Place → AttrKind → List ℕ → Result Right TreeFault
+literal_at dict place attr text = found (fault.BadUpdate place) (option_map right.Value (value_of attr.kind attr.id text dict))
 
--- The value of a line's right side.
-unfoldable pub right_at : Definitions → Place → AttrKind → Word → Result Value TreeFault
-right_at dict place attr word =
-    if is_literal word then found (fault.BadUpdate place) (value_of attr.kind attr.id word.text dict)
-    else Err (fault.NotBuilt place)
+-- A reference that was read, which doesn't mean a number of values.
+abbrev pub referred : Place → Result Reference NoReference → Result Right TreeFault
+referred place (Ok reference) = if is_count reference.which then Err (fault.BadUpdate place) else Ok (right.Reference reference)
+referred place (Err wrong) = Err (fault.BadUpdate place)
 
--- The edit of a line, which is a pair.
-unfoldable pub edit_at : Definitions → Node → Result Edit TreeFault
-edit_at dict node = elim (out-Item node.item) [
-  | level.Pair left operator right ↦ (do
-    attr ← left_at dict node.place left.text
-    assigned ← operator_at node.place operator
-    value ← right_at dict node.place attr right
-    Ok (record { list = list.Control; attr = attr.id; op = op.Set; value = value }))
+-- A reference, from behind its `&` on.
+unfoldable pub reference_at : Definitions → Place → List ℕ → Result Right TreeFault
+reference_at dict place text = referred place (reference_of text dict)
+
+-- An expansion that was read; whatever is wrong with its text, it is told at the line.
+abbrev pub expansion_read : Place → Result (List Part) XlatFault → Result Right TreeFault
+expansion_read place (Ok parts) = Ok (right.Expansion parts)
+expansion_read place (Err wrong) = Err (fault.BadExpansion place)
+
+-- An expansion.
+unfoldable pub expansion_at : Definitions → Place → List ℕ → Result Right TreeFault
+expansion_at dict place text = expansion_read place (parsed text dict)
+
+-- A bare word: a reference behind `&`, else a literal.
+unfoldable pub bare_at : Definitions → Place → AttrKind → List ℕ → Result Right TreeFault
+bare_at dict place attr text =
+    if slice_index text 0 == 38 then reference_at dict place (drop 1 text) else literal_at dict place attr text
+
+-- What a right word says, by its quotes: a double-quoted text is an expansion, a single-quoted one a literal.
+abbrev pub quoted_at : Definitions → Place → AttrKind → Quote → List ℕ → Result Right TreeFault
+quoted_at dict place attr Bare text = bare_at dict place attr text
+quoted_at dict place attr Single text = literal_at dict place attr text
+quoted_at dict place attr Double text = expansion_at dict place text
+
+-- The right side of a line. Behind `!*` it is passed over, and an empty text stands for it.
+unfoldable pub right_at : Definitions → Place → EditOp → AttrKind → Word → Result Right TreeFault
+right_at dict place operator attr word =
+    if clears operator then Ok (right.Value (value.Text [])) else quoted_at dict place attr word.quote word.text
+
+-- The line of a node, which is a pair, in the block of a list.
+unfoldable pub line_at : Definitions → ListName → Node → Result Line TreeFault
+line_at dict block node = elim (out-Item node.item) [
+  | level.Pair left operator word ↦ (do
+    named ← left_at dict block node.place left.text
+    edit ← operator_at node.place operator
+    said ← right_at dict node.place edit named.1 word
+    Ok (record { list = named.0; attr = named.1; op = edit; right = said }))
   | level.Name word ↦ Err (fault.BadUpdate node.place)
   | level.Block kind name body ↦ Err (fault.BadUpdate node.place)
 ]
 
--- The edit of a block's one line. An empty block and a second line aren't built yet.
-unfoldable pub edit_of : Definitions → Place → List Node → Result Edit TreeFault
-edit_of dict place [] = Err (fault.NotBuilt place)
-edit_of dict place (line ∷ []) = edit_at dict line
-edit_of dict place (line ∷ second ∷ more) = edit_at dict line >>= λ edit. Err (fault.NotBuilt second.place)
+-- The lines with that of one more node.
+unfoldable pub with_line : Definitions → ListName → List Line → Node → Result (List Line) TreeFault
+with_line dict block lines node = line_at dict block node >>= λ line. Ok (lines ++ line ∷ [])
 
--- The list of an update, which is named behind the word. Lists other than the control list aren't built yet.
-unfoldable pub list_at : Place → Option Word → Result (Unit {0}) TreeFault
+-- The lines of a block's nodes, in order.
+abbrev pub lines_of : Definitions → ListName → List Node → Result (List Line) TreeFault
+lines_of dict block nodes = after_each (with_line dict block) [] nodes
+
+-- The list of an update, which is named behind the word.
+unfoldable pub list_at : Place → Option Word → Result ListName TreeFault
 list_at place None = Err (fault.BadUpdate place)
-list_at place (Some word) = elim (list_named word.text) [
-  | None ↦ Err (fault.BadUpdate place)
-  | Some list.Request ↦ Err (fault.NotBuilt place)
-  | Some list.Reply ↦ Err (fault.NotBuilt place)
-  | Some list.Control ↦ Ok tt
-]
+list_at place (Some word) = found (fault.BadUpdate place) (list_named word.text)
 
--- The edit of an update, where the server has room for so many statements more.
-unfoldable pub update_at : Definitions → ℕ → Place → Option Word → List Node → Result Edit TreeFault
-update_at dict room place name body = do
-  control ← list_at place name
+-- The lines of an update, where the server has room for so many statements more.
+unfoldable pub update_at : Definitions → ℕ → Place → Option Word → List Node → Result (List Line) TreeFault
+update_at dict room place name nodes = do
+  block ← list_at place name
   counted ← one_more room place
-  edit_of dict place body
+  lines_of dict block nodes

@@ -20,6 +20,7 @@ mod statement;
 mod statements;
 mod subsections;
 mod tree;
+mod update;
 mod updates;
 mod words;
 
@@ -36,3 +37,4 @@ pub use statement::{
     Call, Group, GroupForm, Override, Overrides, Statement, StatementKind, Statements,
 };
 pub use tree::Tree;
+pub use update::{Line, Lines, Right};

@@ -16,6 +16,7 @@ pub enum Wrong {
     BadAction,
     BadUpdate,
     TooDeep,
+    BadExpansion,
     TooMany,
     NotBuilt,
 }
@@ -29,6 +30,7 @@ fn fault_at(wrong: Wrong, place: Place) -> TreeFault
         Wrong::BadAction => TreeFault::BadAction(place),
         Wrong::BadUpdate => TreeFault::BadUpdate(place),
         Wrong::TooDeep => TreeFault::TooDeep(place),
+        Wrong::BadExpansion => TreeFault::BadExpansion(place),
         Wrong::TooMany => TreeFault::TooMany(place),
         Wrong::NotBuilt => TreeFault::NotBuilt(place),
     }

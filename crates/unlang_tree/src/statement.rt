@@ -1,8 +1,8 @@
 //! Statements of a section, after unlang(5).
 
+use crate::update::Lines;
 use rad_outside::Place;
 use rad_tables::Action;
-use rad_value::Edit;
 use rad_words::Code;
 use sqlite_items::Items;
 
@@ -56,8 +56,8 @@ pub enum StatementKind {
     Group(Group),
     /// `return`: ends the section.
     Return,
-    /// `update list { line }`
-    Update(Edit),
+    /// `update list { lines }`
+    Update(Lines),
 }
 
 /// A statement, and where it begins in the configuration.

@@ -175,7 +175,7 @@ pub(crate) fn update_statement(
     ensures { Gives result (update_statement (site_of site.now) levels room place.now name.now body.now) }
 {
     one_deeper(alloc, levels, place)?;
-    let edit = update_at(alloc, site.dict, room, place, name, body)?;
+    let lines = update_at(alloc, site.dict, room, place, name, body)?;
     let left = room.saturating_sub(1);
-    Ok(Some(with_room(alloc, left, place, StatementKind::Update(edit))?))
+    Ok(Some(with_room(alloc, left, place, StatementKind::Update(lines))?))
 }

@@ -1,0 +1,22 @@
+use Rattle.std.proofs.Common.{[]}
+use Rattle.std.proofs.lemmas.Result.{err_from_is_err_and}
+use Rattle.unlang_tree.specs.Readings.{after_each}
+use Rattle.unlang_tree.specs.Updates.{with_line}
+use Rattle.unlang_tree.proofs.Walks.{goes_on, goes_wrong, is_done}
+use Rattle.unlang_tree.proofs.updates.lines_of.Goals as goal
+
+pub returns-in_err-with_line : goal.returns-in_err-with_line
+returns-in_err-with_line c =
+    let step = with_line c.args.dict.now c.args.block in
+    let p = err_from_is_err_and c.from_residual.result c.from_residual.ensures.1 in
+    rw (p.1, p.2) (goes_wrong step c.loop-node.lines c.args.nodes.now c.loop-node.node-index c.node-item.result (after_each step [] c.args.nodes.now) c.in_err-with_line.field-0.0 c.loop-node-test.true c.node-item.is c.in_err-with_line.ensures c.loop-node.invariant)
+
+pub loop-node-preserved : goal.loop-node-preserved
+loop-node-preserved c =
+    let step = with_line c.args.dict.now c.args.block in
+    goes_on step c.loop-node.lines c.with_line.new.lines c.args.nodes.now c.loop-node.node-index c.node-item.result (after_each step [] c.args.nodes.now) c.loop-node-test.true c.node-item.is c.in_ok-with_line.ensures c.loop-node.invariant
+
+pub returns : goal.returns
+returns c =
+    let step = with_line c.args.dict.now c.args.block in
+    is_done step c.loop-node.lines c.args.nodes.now c.loop-node.node-index (after_each step [] c.args.nodes.now) c.loop-node-test.false c.loop-node.invariant
