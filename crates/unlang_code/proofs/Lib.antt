@@ -1,7 +1,7 @@
 pub mod Judging
 pub mod Judged
+pub mod Pieces
+pub mod Trees
+pub mod Leaving
 pub mod Running
-pub mod Looping
 pub mod Finding
-pub mod FrameLaws
-pub mod Keeping

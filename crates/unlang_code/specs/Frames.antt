@@ -8,9 +8,9 @@ use Rattle.rad_value.specs.declared.edits.ListName.{ListName}
 use Rattle.rad_value.specs.declared.edits.ListName.TheVariants.{Request, Reply, Control}
 use Rattle.mod_base.specs.Meaning.{Meaning}
 use Rattle.unlang_tree.specs.declared.statement.Statement.{Statement}
-use Rattle.unlang_tree.specs.declared.statement.StatementKind.{StatementKind}
-use Rattle.unlang_tree.specs.declared.statement.StatementKind.TheVariants as kind
+use Rattle.unlang_code.specs.Leaves.{Leaf, Calls, Edits, leaves_of}
 
+-- Two names of lists are the same.
 abbrev pub same_list : ListName → ListName → Bool
 same_list Request Request = true
 same_list Request Reply = false
@@ -28,10 +28,10 @@ module_edits meaning None list attr = false
 module_edits meaning (Some m) list attr = meaning.edits m list attr
 
 -- A call may edit what its module may, and an update its own attribute in its own list.
-abbrev pub kind_edits : {M : Type 0} → Meaning M → List M → ListName → AttrId → StatementKind → Bool
-kind_edits meaning stack list attr (kind.Call call) = module_edits meaning (slice_get stack call.instance) list attr
-kind_edits meaning stack list attr (kind.Update edit) = same_list edit.list list && same_attr attr edit.attr
+abbrev pub leaf_edits : {M : Type 0} → Meaning M → List M → ListName → AttrId → Leaf → Bool
+leaf_edits meaning stack list attr (Calls call) = module_edits meaning (slice_get stack call.instance) list attr
+leaf_edits meaning stack list attr (Edits edit) = same_list edit.list list && same_attr attr edit.attr
 
--- Statements may edit what one of them may.
+-- Statements may edit what one of them may, those of the blocks in them too.
 abbrev pub edits_of : {M : Type 0} → Meaning M → List M → List Statement → ListName → AttrId → Bool
-edits_of meaning stack statements list attr = list_any (λ (statement : Statement). kind_edits meaning stack list attr statement.kind) statements
+edits_of meaning stack statements list attr = list_any (leaf_edits meaning stack list attr) (leaves_of statements)

@@ -1,7 +1,8 @@
 -- The statements of a section that do something by themselves: calls of modules, and updates of lists. After unlang(5).
-use Rattle.std.specs.Prelude.{List, [], ◌∷◌, slice_get, Option, Some, None}
+use Rattle.std.specs.Prelude.{List, [], ◌∷◌, ◌++◌, slice_get, Option, Some, None}
 use Rattle.std.specs.List.{flat_map, AllByRecursion}
 use Rattle.rad_words.specs.declared.sections.Section.{Section}
+use Rattle.rad_tables.specs.declared.group_kind.GroupKind.TheVariants.{Plain}
 use Rattle.rad_value.specs.declared.edits.Edit.{Edit}
 use Rattle.rad_value.specs.PairLists.{PairLists}
 use Rattle.rad_dict.specs.Definitions.{Definitions}
@@ -10,7 +11,9 @@ use Rattle.mod_base.specs.Meaning.{Meaning}
 use Rattle.unlang_tree.specs.declared.statement.Call.{Call}
 use Rattle.unlang_tree.specs.declared.statement.Statement.{Statement}
 use Rattle.unlang_tree.specs.declared.statement.StatementKind.{StatementKind}
-use Rattle.unlang_tree.specs.declared.statement.StatementKind.TheVariants as kind
+use Rattle.unlang_tree.specs.declared.statement.StatementKind.TheOpen.{StatementKind-F, Group-F, Statement-F}
+use Rattle.unlang_tree.specs.declared.statement.StatementKind.TheOpen as level
+use Rattle.unlang_tree.specs.declared.statement.StatementKind.TheFolds.{fold-StatementKind, fold-Statement}
 use Rattle.unlang_code.specs.Run.{updated}
 
 -- A call of a module, or a line of an update.
@@ -18,14 +21,37 @@ pub data Leaf : Type 0 where
   Calls : Call → Leaf
   Edits : Edit → Leaf
 
--- The leaves of a statement.
+-- The leaves of lists, one after the other.
+abbrev pub joined : List (List Leaf) → List Leaf
+joined [] = []
+joined (leaves ∷ more) = leaves ++ joined more
+
+-- The leaves of a kind of statement, by those of the statements in it.
+abbrev pub kind_leaves : StatementKind-F (List Leaf) (List Leaf) (List Leaf) → List Leaf
+kind_leaves (level.Call call) = Calls call ∷ []
+kind_leaves (level.Group group) = group
+kind_leaves level.Return = []
+kind_leaves (level.Update edit) = Edits edit ∷ []
+
+-- The leaves of a block, by those of its statements.
+abbrev pub group_leaves : Group-F (List Leaf) (List Leaf) (List Leaf) → List Leaf
+group_leaves group = joined group.statements
+
+-- The leaves of a statement are those of its kind.
+abbrev pub statement_leaves : Statement-F (List Leaf) (List Leaf) (List Leaf) → List Leaf
+statement_leaves statement = statement.kind
+
+-- The leaves of a kind of statement, those of the blocks in it too, in order.
 abbrev pub leaves_in : StatementKind → List Leaf
-leaves_in (kind.Call call) = Calls call ∷ []
-leaves_in (kind.Update edit) = Edits edit ∷ []
+leaves_in = fold-StatementKind (List Leaf) (List Leaf) (List Leaf) kind_leaves group_leaves statement_leaves
+
+-- The leaves of a statement.
+abbrev pub leaves_at : Statement → List Leaf
+leaves_at = fold-Statement (List Leaf) (List Leaf) (List Leaf) kind_leaves group_leaves statement_leaves
 
 -- The leaves of statements, in order.
 abbrev pub leaves_of : List Statement → List Leaf
-leaves_of statements = flat_map (λ (statement : Statement). leaves_in statement.kind) statements
+leaves_of statements = flat_map leaves_at statements
 
 -- Each leaf of statements is so.
 abbrev pub EachLeaf : (Leaf → Type 0) → List Statement → Type 0
@@ -36,10 +62,10 @@ abbrev pub module_done : {M : Type 0} → Meaning M → Definitions → Section 
 module_done meaning dict where_it_stands None situation = situation
 module_done meaning dict where_it_stands (Some m) situation = (meaning.does m dict where_it_stands situation).0
 
--- What a leaf does.
+-- What a leaf does. What an update does to the lists doesn't depend on its group.
 abbrev pub leaf_done : {M : Type 0} → Meaning M → List M → Definitions → Section → Leaf → Situation → Situation
 leaf_done meaning stack dict where_it_stands (Calls call) situation = module_done meaning dict where_it_stands (slice_get stack call.instance) situation
-leaf_done meaning stack dict where_it_stands (Edits edit) situation = (updated where_it_stands edit situation).situation
+leaf_done meaning stack dict where_it_stands (Edits edit) situation = (updated where_it_stands Plain edit situation).situation
 
 -- A leaf keeps a fact of the three lists, whatever the situation.
 abbrev pub LeafKeeps : {M : Type 0} → (PairLists → Type 0) → Meaning M → List M → Definitions → Section → Leaf → Type 0

@@ -5,10 +5,11 @@
 //! Above it stand the programs that serve requests.
 #![tactic(auto)]
 
-mod copy;
 mod judgement;
 mod laws;
+mod members;
 mod observer;
+mod progress;
 mod run;
 mod section_id;
 mod table;

@@ -9,7 +9,6 @@ ghost use Rattle.unlang_code.specs.Run.{section_of};
 ghost use Rattle.unlang_code.specs.Sections.{in_32_bits, server_of, subsection_of, section_in, found, statements_of, statements_in, is_server_named, is_named, is_of_kind};
 ghost use Rattle.unlang_code.specs.Serving.{Serves};
 
-use crate::copy::copies_of;
 use crate::observer::{Observer, Silent};
 use crate::run::run_section;
 use crate::section_id::SectionId;
@@ -18,33 +17,35 @@ use rad_dict::Dict;
 use rad_outside::NoMemory;
 use rad_value::Scope;
 use rad_words::{Code, Section};
-use sqlite_items::Items;
 use std::alloc::Global;
 use std::marker::Model;
 use unlang_tree::{Policies, SectionTree, ServerTree, Statement, Subsection};
 
-/// The sections of a site's servers, ready to run. A table keeps the source trees.
+/// The sections of a site's servers, ready to run. A table shares the source trees.
 #[derive(Debug, Drop)]
 pub struct Table {
-    servers: Items<ServerTree>,
+    policies: Policies,
 }
 
 impl Model for Table {
     ghost use Rattle.std.specs.Prelude.{List};
+    ghost use Rattle.std.specs.Coded.{codes};
     ghost use Rattle.unlang_tree.specs.declared.policies.ServerTree.{ServerTree};
+    ghost use Rattle.unlang_tree.specs.contracts.statement.StatementKind as kind;
 
     ghost Value = { List ServerTree };
 
-    ghost view = { λ t. t.servers };
+    ghost coded = { Prim.hlevel (codes, kind.the_row.coded) };
+
+    ghost view = { λ t. t.policies };
 }
 
 /// The table of policies.
-pub fn compile(alloc: Global, policies: &Policies) -> Result<Table, NoMemory>
+pub fn compile(_alloc: Global, policies: &Policies) -> Result<Table, NoMemory>
     ensures { IfOk result (λ table. table ≡ policies.now) }
 {
-    Ok(Table {
-        servers: copies_of(alloc, policies.servers())?,
-    })
+    let policies = policies.try_clone()?;
+    Ok(Table { policies })
 }
 
 /// A place as a number of 32 bits.
@@ -134,7 +135,7 @@ impl Table {
     pub fn server(&self, name: &[u8]) -> Option<u32>
         ensures { result ≡ server_of self.now name.now }
     {
-        match place_of_server(self.servers.as_slice(), name) {
+        match place_of_server(self.policies.servers(), name) {
             Some(place) => in_32_bits(place),
             None => None,
         }
@@ -145,7 +146,7 @@ impl Table {
     fn section(&self, server: u32, section: Section) -> Option<&SectionTree>
         ensures { option_copied result ≡ section_in self.now server section }
     {
-        match self.servers.get(server as usize) {
+        match self.policies.servers().get(server as usize) {
             Some(tree) => section_of_kind(tree.sections.as_slice(), section),
             None => None,
         }
