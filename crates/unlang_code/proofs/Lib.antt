@@ -5,3 +5,5 @@ pub mod Trees
 pub mod Leaving
 pub mod Running
 pub mod Finding
+pub mod Keeping
+pub mod FrameLaws
