@@ -4,6 +4,7 @@ pub mod Pieces
 pub mod Trees
 pub mod Leaving
 pub mod Running
+pub mod Stepping
 pub mod Finding
 pub mod Keeping
 pub mod FrameLaws

@@ -48,7 +48,7 @@ grows_alone s = ([], sym (append-nil s.effects))
 grows_joined : (a b c : Situation) → Grows a b → Grows b c → Grows a c
 grows_joined a b c first second = (first.0 ++ second.0, second.1 ∙ ap (λ (effects : List Effect). effects ++ second.0) first.1 ∙ append_assoc a.effects first.0 second.0)
 
-lasts : IsLasting Grows
+pub lasts : IsLasting Grows
 lasts = record {
   alike = grows_alone;
   joined = grows_joined;
