@@ -1,0 +1,203 @@
+use Rattle.std.proofs.Common.{rules, ◌≡◌, ◌++◌, true, None, map, IfOk, OnOk, OnErr, ℕ, ◌+◌, ◌-◌, ◌*◌, ◌<◌, ◌≤◌, length, ◌/◌, ◌%◌, Bool, false, nat_eq, nat_lt, List, [], ◌∷◌, slice_index_or, slice_set, bit_and, bit_or, Fits, w8, w32, w64, Bor, MutBor}
+use Rattle.std.specs.List.{AllByRecursion}
+use Rattle.rad_words.specs.declared.sections.Section.TheVariants.{Accounting}
+use Rattle.rad_outside.specs.Moments.{IsInTime}
+use Rattle.mod_base.specs.Reaching.{Reaches, Stops}
+use Rattle.unlang_tree.specs.EachCall.{calls_in, calls_in_kind}
+use Rattle.unlang_tree.specs.declared.statement.Group.{out-Group}
+use Rattle.unlang_code.specs.Run.{called, one_child, IsUpdate, kind_done, statement_done, run_of, formed, balanced_in, group_done, section_done}
+use Rattle.unlang_code.specs.Progressing.{come_to, done_in, ends_as}
+use Rattle.unlang_code.specs.Serving.{IsServed, AreServed}
+use Rattle.std.proofs.Common.{drop, Option, sym, ap, subst, ◌∙◌}
+use Rattle.mod_base.proofs.Reached.{reaches_start, reaches_then, reaches_as}
+use Rattle.unlang_tree.specs.declared.statement.Statement.{Statement}
+use Rattle.unlang_code.specs.declared.progress.Ended.{Ended}
+use Rattle.unlang_code.specs.Run.{Piece, returned}
+use Rattle.unlang_code.proofs.Pieces.{finished, ends_is}
+use Rattle.unlang_code.proofs.Trees.{by_kind, by_call, by_return, by_update, by_group}
+use Rattle.unlang_code.proofs.Running.{on_err, update_reaches, update_stops}
+use Rattle.unlang_code.proofs.Stepping.{left, from_here, goes_on_here, ends_here, stops_here}
+use Rattle.unlang_code.proofs.run.+running.Goals as goal
+
+-- src/run.rt:184:18
+pub run_around-run_members-requires : goal.run_around-run_members-requires
+run_around-run_members-requires g t c κs within = ?
+
+-- src/run.rt:184:18
+pub run_around-returns-in_err-so_far-clause-memory :
+    goal.run_around-returns-in_err-so_far-clause-memory
+run_around-returns-in_err-so_far-clause-memory g t c = ?
+
+-- src/run.rt:164:1
+pub run_around-returns-in-Going-clause-ok : goal.run_around-returns-in-Going-clause-ok
+run_around-returns-in-Going-clause-ok g t c = ?
+
+-- src/run.rt:164:1
+pub run_around-returns-in-Going-clause-memory : goal.run_around-returns-in-Going-clause-memory
+run_around-returns-in-Going-clause-memory g t c = ?
+
+-- src/run.rt:164:1
+pub run_around-returns-in-Over-clause-ok : goal.run_around-returns-in-Over-clause-ok
+run_around-returns-in-Over-clause-ok g t c = ?
+
+-- src/run.rt:216:9
+pub run_balanced-returns-in_default-clause-ok : goal.run_balanced-returns-in_default-clause-ok
+run_balanced-returns-in_default-clause-ok g t c = ?
+
+-- src/run.rt:222:13
+pub run_balanced-run_members-requires : goal.run_balanced-run_members-requires
+run_balanced-run_members-requires g t c κs within = ?
+
+-- src/run.rt:222:13
+pub run_balanced-returns-in_err-so_far-in-Plain-clause-memory :
+    goal.run_balanced-returns-in_err-so_far-in-Plain-clause-memory
+run_balanced-returns-in_err-so_far-in-Plain-clause-memory g t c = ?
+
+-- src/run.rt:226:33
+pub run_balanced-run_around-requires : goal.run_balanced-run_around-requires
+run_balanced-run_around-requires g t c κs within = ?
+
+-- src/run.rt:226:33
+pub run_balanced-returns-in_err-so_far-in-Redundant-clause-memory :
+    goal.run_balanced-returns-in_err-so_far-in-Redundant-clause-memory
+run_balanced-returns-in_err-so_far-in-Redundant-clause-memory g t c = ?
+
+-- src/run.rt:196:1
+pub run_balanced-returns-clause-ok : goal.run_balanced-returns-clause-ok
+run_balanced-returns-clause-ok g t c = ?
+
+-- src/run.rt:261:1
+pub run_formed-returns-in-Group-clause-memory : goal.run_formed-returns-in-Group-clause-memory
+run_formed-returns-in-Group-clause-memory g t c = rw c.in-Group.is c.run_in_order.ensures.memory
+
+-- src/run.rt:261:1
+pub run_formed-returns-in-Redundant-clause-memory :
+    goal.run_formed-returns-in-Redundant-clause-memory
+run_formed-returns-in-Redundant-clause-memory g t c = rw c.in-Redundant.is c.run_in_order-in-Redundant.ensures.memory
+
+-- src/run.rt:261:1
+pub run_formed-returns-in-LoadBalance-clause-memory :
+    goal.run_formed-returns-in-LoadBalance-clause-memory
+run_formed-returns-in-LoadBalance-clause-memory g t c = rw c.in-LoadBalance.is c.run_balanced.ensures.memory
+
+-- src/run.rt:261:1
+pub run_formed-returns-in-RedundantLoadBalance-clause-memory :
+    goal.run_formed-returns-in-RedundantLoadBalance-clause-memory
+run_formed-returns-in-RedundantLoadBalance-clause-memory g t c = rw c.in-RedundantLoadBalance.is c.run_balanced-in-RedundantLoadBalance.ensures.memory
+
+-- src/run.rt:316:17
+pub run_group-returns-in_err-ended-clause-memory :
+    goal.run_group-returns-in_err-ended-clause-memory
+run_group-returns-in_err-ended-clause-memory g t c =
+    rw (← c.as_slice.ensures) (on_err c.from_residual.result c.in_err-ended.ensures.memory)
+
+-- src/run.rt:235:1
+pub run_in_order-returns-clause-ok : goal.run_in_order-returns-clause-ok
+run_in_order-returns-clause-ok g t c =
+    reaches_as c.args.scope.now c.run_members.new.scope (g.W.World.state c.args.world.now) (g.W.World.state c.run_members.new.world)
+    (λ s. finished (left g.M.Module.meaning c.args.stack.now c.args.dict.now c.args.section c.args.kind None c.args.statements.now s)) (λ s. finished (s, c.in_ok-so_far.so_far)) (λ s. ends_as (run_of g.M.Module.meaning c.args.stack.now c.args.dict.now c.args.section c.args.kind c.args.statements.now s)) (λ s. (s, c.end_of.result))
+    (λ s. ends_is (run_of g.M.Module.meaning c.args.stack.now c.args.dict.now c.args.section c.args.kind c.args.statements.now s)) (λ s. ap (λ (e : Ended). (s, e)) (sym c.end_of.ensures))
+    (reaches_then c.args.scope.now c.run_members.new.scope (g.W.World.state c.args.world.now) (g.W.World.state c.run_members.new.world) (left g.M.Module.meaning c.args.stack.now c.args.dict.now c.args.section c.args.kind None c.args.statements.now) (λ s. (s, c.in_ok-so_far.so_far)) finished c.in_ok-so_far.ensures.ok)
+
+-- src/run.rt:89:40
+pub run_kind-run_group-requires : goal.run_kind-run_group-requires
+run_kind-run_group-requires g t c κs within = ?
+
+-- src/run.rt:94:25
+pub run_kind-returns-in_err-child-in-Update-clause-memory :
+    goal.run_kind-returns-in_err-child-in-Update-clause-memory
+run_kind-returns-in_err-child-in-Update-clause-memory g t c =
+    let Stopped : Piece → Type 0 = λ (p : Piece). OnErr c.from_residual.result (Stops c.args.scope.now (g.W.World.state c.args.world.now) (λ s. (p c.args.kind s).situation.effects) (g.W.World.state c.args.world.now)) in
+    subst Stopped (sym (ap (kind_done g.M.Module.meaning c.args.stack.now c.args.dict.now c.args.section) c.in-Update.is ∙ by_update g.M.Module.meaning c.args.stack.now c.args.dict.now c.args.section c.in-Update.edit)) (on_err c.from_residual.result (update_stops c.args.section c.args.kind c.in-Update.edit c.args.scope.now (g.W.World.state c.args.world.now)))
+
+-- src/run.rt:66:1
+pub run_kind-returns-in-Call-clause-memory : goal.run_kind-returns-in-Call-clause-memory
+run_kind-returns-in-Call-clause-memory g t c =
+    let Stopped : Piece → Type 0 = λ (p : Piece). OnErr c.call.result (Stops c.args.scope.now (g.W.World.state c.args.world.now) (λ s. (p c.args.kind s).situation.effects) (g.W.World.state c.call.new.world)) in
+    subst Stopped (sym (ap (kind_done g.M.Module.meaning c.args.stack.now c.args.dict.now c.args.section) c.in-Call.is ∙ by_call g.M.Module.meaning c.args.stack.now c.args.dict.now c.args.section c.in-Call.called)) c.call.ensures.memory
+
+-- src/run.rt:66:1
+pub run_kind-returns-in-Group-clause-memory : goal.run_kind-returns-in-Group-clause-memory
+run_kind-returns-in-Group-clause-memory g t c =
+    let Stopped : Piece → Type 0 = λ (p : Piece). OnErr c.run_group.result (Stops c.args.scope.now (g.W.World.state c.args.world.now) (λ s. (p c.args.kind s).situation.effects) (g.W.World.state c.run_group.new.world)) in
+    subst Stopped (sym (ap (kind_done g.M.Module.meaning c.args.stack.now c.args.dict.now c.args.section) c.in-Group.is ∙ by_group g.M.Module.meaning c.args.stack.now c.args.dict.now c.args.section c.in-Group.group)) c.run_group.ensures.memory
+
+-- src/run.rt:66:1
+pub run_kind-returns-in-Return-clause-ok : goal.run_kind-returns-in-Return-clause-ok
+run_kind-returns-in-Return-clause-ok g t c =
+    let Reached : Piece → Type 0 = λ (p : Piece). Reaches c.args.scope.now (g.W.World.state c.args.world.now) (p c.args.kind) c.args.scope.now (g.W.World.state c.args.world.now) (done_in c.returned.result) in
+    subst Reached (sym (ap (kind_done g.M.Module.meaning c.args.stack.now c.args.dict.now c.args.section) c.in-Return.is ∙ by_return g.M.Module.meaning c.args.stack.now c.args.dict.now c.args.section)) (rw c.returned.ensures (reaches_start c.args.scope.now (g.W.World.state c.args.world.now) returned))
+
+-- src/run.rt:66:1
+pub run_kind-returns-in_ok-child-in-Update-clause-ok :
+    goal.run_kind-returns-in_ok-child-in-Update-clause-ok
+run_kind-returns-in_ok-child-in-Update-clause-ok g t c =
+    let Reached : Piece → Type 0 = λ (p : Piece). Reaches c.args.scope.now (g.W.World.state c.args.world.now) (p c.args.kind) c.update.new.scope (g.W.World.state c.args.world.now) (done_in c.of_child.result) in
+    subst Reached (sym (ap (kind_done g.M.Module.meaning c.args.stack.now c.args.dict.now c.args.section) c.in-Update.is ∙ by_update g.M.Module.meaning c.args.stack.now c.args.dict.now c.args.section c.in-Update.edit)) (rw c.of_child.ensures (update_reaches c.args.section c.args.kind c.in-Update.edit c.args.scope.now c.update.new.scope (g.W.World.state c.args.world.now) c.in_ok-child-in-Update.child c.in_ok-child-in-Update.ensures))
+
+-- src/run.rt:151:5
+pub run_members-loop-statement-init : goal.run_members-loop-statement-init
+run_members-loop-statement-init g t c =
+    record { reached = reaches_start c.args.scope.now (g.W.World.state c.args.world.now) (left g.M.Module.meaning c.args.stack.now c.args.dict.now c.args.section c.args.kind c.args.leading c.args.statements.now); in_time = c.requires.in_time }
+
+-- src/run.rt:152:20
+pub run_members-run_statement-requires : goal.run_members-run_statement-requires
+run_members-run_statement-requires g t c κs within = ?
+
+-- src/run.rt:152:20
+pub run_members-returns-in_err-done-clause-memory :
+    goal.run_members-returns-in_err-done-clause-memory
+run_members-returns-in_err-done-clause-memory g t c =
+    let loop = c.loop-statement in
+    let statement = c.statement-item.result in
+    let all = c.args.statements.now in
+    let Reached : List Statement → Type 0 = λ (rest : List Statement). Reaches c.args.scope.now (g.W.World.state c.args.world.now) (left g.M.Module.meaning c.args.stack.now c.args.dict.now c.args.section c.args.kind c.args.leading all) loop.scope (g.W.World.state loop.world) (left g.M.Module.meaning c.args.stack.now c.args.dict.now c.args.section c.args.kind loop.leading rest) in
+    let so_far = subst Reached (from_here all loop.statement-index statement c.loop-statement-test.true c.statement-item.is) loop.invariant.reached in
+    on_err c.from_residual.result (stops_here g.M.Module.meaning c.args.stack.now c.args.dict.now c.args.section c.args.kind c.args.leading all c.args.scope.now (g.W.World.state c.args.world.now) loop.leading statement (drop (loop.statement-index + 1) all) loop.scope c.run_statement.new.scope (g.W.World.state loop.world) (g.W.World.state c.run_statement.new.world) so_far g.met.M.Module.lawful c.in_err-done.ensures.memory)
+
+-- src/run.rt:157:38
+pub run_members-returns-in-Over-clause-ok : goal.run_members-returns-in-Over-clause-ok
+run_members-returns-in-Over-clause-ok g t c =
+    let loop = c.loop-statement in
+    let statement = c.statement-item.result in
+    let all = c.args.statements.now in
+    let Reached : List Statement → Type 0 = λ (rest : List Statement). Reaches c.args.scope.now (g.W.World.state c.args.world.now) (left g.M.Module.meaning c.args.stack.now c.args.dict.now c.args.section c.args.kind c.args.leading all) loop.scope (g.W.World.state loop.world) (left g.M.Module.meaning c.args.stack.now c.args.dict.now c.args.section c.args.kind loop.leading rest) in
+    let so_far = subst Reached (from_here all loop.statement-index statement c.loop-statement-test.true c.statement-item.is) loop.invariant.reached in
+    ends_here g.M.Module.meaning c.args.stack.now c.args.dict.now c.args.section c.args.kind c.args.leading all c.args.scope.now (g.W.World.state c.args.world.now) loop.leading statement (drop (loop.statement-index + 1) all) loop.scope c.run_statement.new.scope (g.W.World.state loop.world) (g.W.World.state c.run_statement.new.world) so_far c.in_ok-done.done c.in-Over.ended c.in_ok-done.ensures.ok (sym c.absorbed.ensures ∙ c.in-Over.is)
+
+-- src/run.rt:151:5
+pub run_members-loop-statement-preserved : goal.run_members-loop-statement-preserved
+run_members-loop-statement-preserved g t c =
+    let loop = c.loop-statement in
+    let statement = c.statement-item.result in
+    let all = c.args.statements.now in
+    let Reached : List Statement → Type 0 = λ (rest : List Statement). Reaches c.args.scope.now (g.W.World.state c.args.world.now) (left g.M.Module.meaning c.args.stack.now c.args.dict.now c.args.section c.args.kind c.args.leading all) loop.scope (g.W.World.state loop.world) (left g.M.Module.meaning c.args.stack.now c.args.dict.now c.args.section c.args.kind loop.leading rest) in
+    let so_far = subst Reached (from_here all loop.statement-index statement c.loop-statement-test.true c.statement-item.is) loop.invariant.reached in
+    record { reached = goes_on_here g.M.Module.meaning c.args.stack.now c.args.dict.now c.args.section c.args.kind c.args.leading all c.args.scope.now (g.W.World.state c.args.world.now) loop.leading statement (drop (loop.statement-index + 1) all) loop.scope c.run_statement.new.scope (g.W.World.state loop.world) (g.W.World.state c.run_statement.new.world) so_far c.in_ok-done.done c.in-Going.heaviest c.in_ok-done.ensures.ok (sym c.absorbed.ensures ∙ c.in-Going.is); in_time = c.in_ok-done.ensures.in_time }
+
+-- src/run.rt:130:1
+pub run_members-returns-clause-ok : goal.run_members-returns-clause-ok
+run_members-returns-clause-ok g t c = ?
+
+-- src/run.rt:130:1
+pub run_members-returns-clause-in_time : goal.run_members-returns-clause-in_time
+run_members-returns-clause-in_time g t c = c.loop-statement.invariant.in_time
+
+-- src/run.rt:120:16
+pub run_statement-returns-in_err-done-clause-memory :
+    goal.run_statement-returns-in_err-done-clause-memory
+run_statement-returns-in_err-done-clause-memory g t c =
+    let Stopped : Piece → Type 0 = λ (p : Piece). OnErr c.from_residual.result (Stops c.args.scope.now (g.W.World.state c.args.world.now) (λ s. (p c.args.kind s).situation.effects) (g.W.World.state c.run_kind.new.world)) in
+    subst Stopped (sym (by_kind g.M.Module.meaning c.args.stack.now c.args.dict.now c.args.section c.args.statement.now)) (on_err c.from_residual.result c.in_err-done.ensures.memory)
+
+-- src/run.rt:101:1
+pub run_statement-returns-in-Some-clause-ok : goal.run_statement-returns-in-Some-clause-ok
+run_statement-returns-in-Some-clause-ok g t c =
+    let Reached : Piece → Type 0 = λ (p : Piece). Reaches c.args.scope.now (g.W.World.state c.args.world.now) (p c.args.kind) c.run_kind.new.scope (g.W.World.state c.run_kind.new.world) (done_in c.in_ok-done.done) in
+    subst Reached (sym (by_kind g.M.Module.meaning c.args.stack.now c.args.dict.now c.args.section c.args.statement.now)) c.in_ok-done.ensures.ok
+
+-- src/run.rt:101:1
+pub run_statement-returns-in_default-clause-ok : goal.run_statement-returns-in_default-clause-ok
+run_statement-returns-in_default-clause-ok g t c =
+    let Reached : Piece → Type 0 = λ (p : Piece). Reaches c.args.scope.now (g.W.World.state c.args.world.now) (p c.args.kind) c.run_kind.new.scope (g.W.World.state c.run_kind.new.world) (done_in c.in_ok-done.done) in
+    subst Reached (sym (by_kind g.M.Module.meaning c.args.stack.now c.args.dict.now c.args.section c.args.statement.now)) c.in_ok-done.ensures.ok
