@@ -5,6 +5,7 @@ pub mod Trees
 pub mod Leaving
 pub mod Running
 pub mod Stepping
+pub mod Served
 pub mod Finding
 pub mod Keeping
 pub mod FrameLaws

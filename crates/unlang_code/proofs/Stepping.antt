@@ -1,6 +1,6 @@
 -- Statements are run one by one, behind the heaviest child so far.
-use Rattle.std.proofs.lemmas.List.{drop_more}
-use Rattle.std.proofs.Common.{◌≡◌, ℕ, ◌+◌, ◌<◌, List, [], ◌∷◌, length, drop, get_or, Option, Some, None, refl, sym, ap, ◌∙◌}
+use Rattle.std.proofs.lemmas.List.{drop_more, drop_all}
+use Rattle.std.proofs.Common.{◌≡◌, ℕ, ◌+◌, ◌<◌, ◌≤◌, List, [], ◌∷◌, length, drop, get_or, Option, Some, None, refl, sym, ap, ◌∙◌}
 use Rattle.rad_words.specs.declared.sections.Section.{Section}
 use Rattle.rad_tables.specs.declared.group_kind.GroupKind.{GroupKind}
 use Rattle.rad_value.specs.declared.scope.Scope.{Scope}
@@ -18,7 +18,7 @@ use Rattle.unlang_code.specs.declared.progress.Ended.{Ended}
 use Rattle.unlang_code.specs.declared.progress.Progress.{Progress}
 use Rattle.unlang_code.specs.declared.progress.Progress.TheVariants.{Going, Over}
 use Rattle.unlang_code.specs.Progress.{absorbed}
-use Rattle.unlang_code.specs.Progressing.{come_to, done_in}
+use Rattle.unlang_code.specs.Progressing.{come_to, done_in, progressed}
 use Rattle.unlang_code.specs.Run.{statement_done, run_of}
 use Rattle.unlang_code.proofs.Pieces.{onward, absorbed_is, piece_then}
 use Rattle.unlang_code.proofs.Leaving.{rest_leads}
@@ -78,3 +78,14 @@ module _ {M : Type 0} (meaning : Meaning M) (stack : List M) (dict : Definitions
         (λ s. let first = statement_done meaning stack dict section statement kind s in
         rest_leads Grows lasts first (run_of meaning stack dict section kind others) (run_grows meaning lawful stack dict section kind others first.situation))
         stopped)
+
+  -- where no statement is left, the group goes on with the heaviest child so far
+  none_left : (leading : Option Child) (s : Situation) → left leading [] s ≡ (s, Going leading)
+  unfolding progressed
+  none_left leading s = refl
+
+  pub ends_behind : (before : Option Child) (all : List Statement) (i : ℕ) (scope0 scope : Scope) (world0 world : WorldState) (leading : Option Child) → length all ≤ i
+      → Reaches scope0 world0 (left before all) scope world (left leading (drop i all)) → Reaches scope0 world0 (left before all) scope world (λ s. (s, Going leading))
+  ends_behind before all i scope0 scope world0 world leading past so_far =
+      reaches_as scope0 scope world0 world (left before all) (left leading (drop i all)) (left before all) (λ s. (s, Going leading)) (λ s. refl)
+      (λ s. ap (λ (rest : List Statement). left leading rest s) (drop_all i all past) ∙ none_left leading s) so_far

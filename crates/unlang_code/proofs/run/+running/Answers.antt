@@ -8,7 +8,10 @@ use Rattle.unlang_tree.specs.declared.statement.Group.{out-Group}
 use Rattle.unlang_code.specs.Run.{called, one_child, IsUpdate, kind_done, statement_done, run_of, formed, balanced_in, group_done, section_done}
 use Rattle.unlang_code.specs.Progressing.{come_to, done_in, ends_as}
 use Rattle.unlang_code.specs.Serving.{IsServed, AreServed}
-use Rattle.std.proofs.Common.{drop, Option, sym, ap, subst, ◌∙◌}
+use Rattle.unlang_tree.proofs.CallsWithin.{calls_of_group}
+use Rattle.unlang_tree.specs.declared.statement.Call.{Call}
+use Rattle.unlang_code.proofs.Served.{each_at}
+use Rattle.std.proofs.Common.{arith, drop, Option, sym, ap, subst, ◌∙◌}
 use Rattle.mod_base.proofs.Reached.{reaches_start, reaches_then, reaches_as}
 use Rattle.unlang_tree.specs.declared.statement.Statement.{Statement}
 use Rattle.unlang_code.specs.declared.progress.Ended.{Ended}
@@ -16,7 +19,7 @@ use Rattle.unlang_code.specs.Run.{Piece, returned}
 use Rattle.unlang_code.proofs.Pieces.{finished, ends_is}
 use Rattle.unlang_code.proofs.Trees.{by_kind, by_call, by_return, by_update, by_group}
 use Rattle.unlang_code.proofs.Running.{on_err, update_reaches, update_stops}
-use Rattle.unlang_code.proofs.Stepping.{left, from_here, goes_on_here, ends_here, stops_here}
+use Rattle.unlang_code.proofs.Stepping.{left, from_here, goes_on_here, ends_here, stops_here, ends_behind}
 use Rattle.unlang_code.proofs.run.+running.Goals as goal
 
 -- src/run.rt:184:18
@@ -101,7 +104,7 @@ run_in_order-returns-clause-ok g t c =
 
 -- src/run.rt:89:40
 pub run_kind-run_group-requires : goal.run_kind-run_group-requires
-run_kind-run_group-requires g t c κs within = ?
+run_kind-run_group-requires g t c κs within = (search rules, (search rules, (search rules, (search rules, (subst (AllByRecursion (IsServed g.M.Module.meaning c.args.stack.now c.args.section)) (ap calls_in_kind c.in-Group.is ∙ calls_of_group c.in-Group.group) c.requires.served, (c.requires.in_time, c.requires.changes))))))
 
 -- src/run.rt:94:25
 pub run_kind-returns-in_err-child-in-Update-clause-memory :
@@ -142,7 +145,9 @@ run_members-loop-statement-init g t c =
 
 -- src/run.rt:152:20
 pub run_members-run_statement-requires : goal.run_members-run_statement-requires
-run_members-run_statement-requires g t c κs within = ?
+run_members-run_statement-requires g t c κs within =
+    let P : Call → Type 0 = IsServed g.M.Module.meaning c.args.stack.now c.args.section in
+    (search rules, (search rules, (search rules, (search rules, (subst (λ one. AllByRecursion P (calls_in one)) (sym c.statement-item.is) (each_at P c.args.statements.now c.loop-statement.statement-index c.statement-item.result c.loop-statement-test.true c.requires.served), (c.loop-statement.invariant.in_time, search rules))))))
 
 -- src/run.rt:152:20
 pub run_members-returns-in_err-done-clause-memory :
@@ -177,7 +182,7 @@ run_members-loop-statement-preserved g t c =
 
 -- src/run.rt:130:1
 pub run_members-returns-clause-ok : goal.run_members-returns-clause-ok
-run_members-returns-clause-ok g t c = ?
+run_members-returns-clause-ok g t c = ends_behind g.M.Module.meaning c.args.stack.now c.args.dict.now c.args.section c.args.kind c.args.leading c.args.statements.now c.loop-statement.statement-index c.args.scope.now c.loop-statement.scope (g.W.World.state c.args.world.now) (g.W.World.state c.loop-statement.world) c.loop-statement.leading (omega (arith, c.loop-statement-test.false)) c.loop-statement.invariant.reached
 
 -- src/run.rt:130:1
 pub run_members-returns-clause-in_time : goal.run_members-returns-clause-in_time
