@@ -11,7 +11,12 @@ use Rattle.unlang_code.specs.Serving.{IsServed, AreServed}
 use Rattle.unlang_tree.proofs.CallsWithin.{calls_of_group}
 use Rattle.unlang_tree.specs.declared.statement.Call.{Call}
 use Rattle.unlang_code.proofs.Served.{each_at}
-use Rattle.std.proofs.Common.{arith, drop, Option, sym, ap, subst, ◌∙◌}
+use Rattle.unlang_tree.proofs.statement.StatementKind.TheLaws as kind
+use Rattle.unlang_tree.proofs.statement.Group.TheLaws as group
+use Rattle.unlang_tree.specs.declared.statement.StatementKind.TheVariants as kinds
+use denote.Param.Weighed.{at_most}
+use Rattle.unlang_tree.proofs.statement.Statement.TheLaws as one
+use Rattle.std.proofs.Common.{arith, suc, refl, drop, Option, sym, ap, subst, ◌∙◌}
 use Rattle.mod_base.proofs.Reached.{reaches_start, reaches_then, reaches_as}
 use Rattle.unlang_tree.specs.declared.statement.Statement.{Statement}
 use Rattle.unlang_code.specs.declared.progress.Ended.{Ended}
@@ -104,7 +109,7 @@ run_in_order-returns-clause-ok g t c =
 
 -- src/run.rt:89:40
 pub run_kind-run_group-requires : goal.run_kind-run_group-requires
-run_kind-run_group-requires g t c κs within = (search rules, (search rules, (search rules, (search rules, (subst (AllByRecursion (IsServed g.M.Module.meaning c.args.stack.now c.args.section)) (ap calls_in_kind c.in-Group.is ∙ calls_of_group c.in-Group.group) c.requires.served, (c.requires.in_time, c.requires.changes))))))
+run_kind-run_group-requires g t c κs within = (?, (search rules, (search rules, (search rules, (subst (AllByRecursion (IsServed g.M.Module.meaning c.args.stack.now c.args.section)) (ap calls_in_kind c.in-Group.is ∙ calls_of_group c.in-Group.group) c.requires.served, (c.requires.in_time, c.requires.changes))))))
 
 -- src/run.rt:94:25
 pub run_kind-returns-in_err-child-in-Update-clause-memory :
@@ -147,7 +152,7 @@ run_members-loop-statement-init g t c =
 pub run_members-run_statement-requires : goal.run_members-run_statement-requires
 run_members-run_statement-requires g t c κs within =
     let P : Call → Type 0 = IsServed g.M.Module.meaning c.args.stack.now c.args.section in
-    (search rules, (search rules, (search rules, (search rules, (subst (λ one. AllByRecursion P (calls_in one)) (sym c.statement-item.is) (each_at P c.args.statements.now c.loop-statement.statement-index c.statement-item.result c.loop-statement-test.true c.requires.served), (c.loop-statement.invariant.in_time, search rules))))))
+    (omega (arith, c.decreases, ap one.the_size c.statement-item.is, at_most one.the_size c.args.statements.now c.loop-statement.statement-index c.statement-item.result c.loop-statement-test.true), (search rules, (search rules, (search rules, (subst (λ x. AllByRecursion P (calls_in x)) (sym c.statement-item.is) (each_at P c.args.statements.now c.loop-statement.statement-index c.statement-item.result c.loop-statement-test.true c.requires.served), (c.loop-statement.invariant.in_time, search rules))))))
 
 -- src/run.rt:152:20
 pub run_members-returns-in_err-done-clause-memory :

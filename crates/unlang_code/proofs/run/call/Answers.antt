@@ -1,5 +1,3 @@
-use Rattle.unlang_code.proofs.Pieces.{ends_is}
-use Rattle.unlang_code.proofs.Stepping.{from_here}
 use Rattle.std.proofs.Common.{subst, sym}
 use Rattle.rad_outside.specs.Moments.{IsInTime}
 use Rattle.unlang_code.proofs.Running.{on_err, call_keeps_time, call_stops}
