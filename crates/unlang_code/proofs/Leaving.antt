@@ -134,8 +134,8 @@ module _ (R : Situation → Situation → Type 0) (lasting : IsLasting R) where
     group_led x y is each kind s =
         let rolled = out-roll-Group x in
         let leads : AllByRecursion Leads (map done_at x.statements) =
-            subst (λ statements. AllByRecursion LeafLeads (leaves_of statements) → AllByRecursion Leads (map done_at statements)) is (all_led y.statements)
-            (subst (λ (made : Group-F StatementKind Group Statement). AllByRecursion LeafLeads (leaves_of made.statements)) rolled each) in
+        subst (λ statements. AllByRecursion LeafLeads (leaves_of statements) → AllByRecursion Leads (map done_at statements)) is (all_led y.statements)
+        (subst (λ (made : Group-F StatementKind Group Statement). AllByRecursion LeafLeads (leaves_of made.statements)) rolled each) in
         subst (λ (made : Group-F StatementKind Group Statement). R s (formed made.form (map done_at made.statements) s).situation) (sym rolled)
         (formed_leads x.form (map done_at x.statements) leads s)
 

@@ -44,4 +44,3 @@ module _ {M : Type 0} (meaning : Meaning M) (stack : List M) (dict : Definitions
       ap (kind_done meaning stack dict section) (sym (rolls-Group group))
       ∙ fold-roll-StatementKind Piece Piece Piece (kind_step meaning stack dict section) (group_step section) statement_step (level.Group group)
       ∙ fold_out-Group Piece Piece Piece (kind_step meaning stack dict section) (group_step section) statement_step group
-

@@ -51,7 +51,12 @@ fn call<M: Module, W: World>(
 }
 
 /// Does an update.
-fn update(section: Section, kind: GroupKind, edit: &Edit, scope: &mut Scope) -> Result<Child, NoMemory>
+fn update(
+    section: Section,
+    kind: GroupKind,
+    edit: &Edit,
+    scope: &mut Scope,
+) -> Result<Child, NoMemory>
     ensures { IfOk result (λ child. IsUpdate section kind edit.now scope.old scope.new child) }
 {
     let code = if scope.lists.try_update(edit)? {
@@ -118,7 +123,15 @@ fn run_statement<M: Module, W: World, O: Observer>(
     ensures memory { OnErr result (Stops scope.old (W.state world.old) (λ s. (statement_done M.meaning stack.now dict.now section statement.now kind s).situation.effects) (W.state world.new)) }
 {
     let done = run_kind(
-        alloc, stack, section, kind, &statement.kind, scope, world, dict, observer,
+        alloc,
+        stack,
+        section,
+        kind,
+        &statement.kind,
+        scope,
+        world,
+        dict,
+        observer,
     )?;
     if let Some(child) = done.child {
         observer.ran(&statement.place, child.code);
@@ -279,16 +292,48 @@ fn run_formed<M: Module, W: World, O: Observer>(
 {
     match form {
         GroupForm::Group => run_in_order(
-            alloc, stack, section, GroupKind::Plain, statements, scope, world, dict, observer,
+            alloc,
+            stack,
+            section,
+            GroupKind::Plain,
+            statements,
+            scope,
+            world,
+            dict,
+            observer,
         ),
         GroupForm::Redundant => run_in_order(
-            alloc, stack, section, GroupKind::Redundant, statements, scope, world, dict, observer,
+            alloc,
+            stack,
+            section,
+            GroupKind::Redundant,
+            statements,
+            scope,
+            world,
+            dict,
+            observer,
         ),
         GroupForm::LoadBalance => run_balanced(
-            alloc, stack, section, GroupKind::Plain, statements, scope, world, dict, observer,
+            alloc,
+            stack,
+            section,
+            GroupKind::Plain,
+            statements,
+            scope,
+            world,
+            dict,
+            observer,
         ),
         GroupForm::RedundantLoadBalance => run_balanced(
-            alloc, stack, section, GroupKind::Redundant, statements, scope, world, dict, observer,
+            alloc,
+            stack,
+            section,
+            GroupKind::Redundant,
+            statements,
+            scope,
+            world,
+            dict,
+            observer,
         ),
     }
 }
