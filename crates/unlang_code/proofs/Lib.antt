@@ -6,6 +6,7 @@ pub mod Leaving
 pub mod Running
 pub mod Stepping
 pub mod Served
+pub mod Balancing
 pub mod Finding
 pub mod Keeping
 pub mod FrameLaws

@@ -33,6 +33,11 @@ pub on_err : {T E P : Type 0} (result : Result T E) → P → OnErr result P
 on_err (Ok value) p = tt
 on_err (Err fault) p = p
 
+-- what an error keeps, where there is one
+pub if_err : {T E P Q : Type 0} (result : Result T E) → (P → Q) → OnErr result P → OnErr result Q
+if_err (Ok value) more p = tt
+if_err (Err fault) more p = more p
+
 -- what a value keeps, where there is one
 pub if_ok : {T E : Type 0} {P Q : T → Type 0} (result : Result T E) → ((value : T) → P value → Q value) → IfOk result P → IfOk result Q
 if_ok (Ok value) more p = more value p

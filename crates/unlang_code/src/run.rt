@@ -1,13 +1,13 @@
 //! A section's statements, run over a request.
 
-ghost use Rattle.std.specs.Prelude.{◌≡◌, ◌++◌, true, None, map, IfOk, OnOk, OnErr};
+ghost use Rattle.std.specs.Prelude.{◌≡◌, true, None, ◌≤◌, length, map, IfOk, OnOk, OnErr};
 ghost use Rattle.std.specs.List.{AllByRecursion};
 ghost use Rattle.rad_words.specs.declared.sections.Section.TheVariants.{Accounting};
 ghost use Rattle.rad_outside.specs.Moments.{IsInTime};
 ghost use Rattle.mod_base.specs.Reaching.{Reaches, Stops};
 ghost use Rattle.unlang_tree.specs.EachCall.{calls_in, calls_in_kind};
 ghost use Rattle.unlang_tree.specs.declared.statement.Group.{out-Group};
-ghost use Rattle.unlang_code.specs.Run.{called, one_child, IsUpdate, kind_done, statement_done, run_of, formed, balanced_in, group_done, section_done};
+ghost use Rattle.unlang_code.specs.Run.{called, one_child, IsUpdate, kind_done, statement_done, run_of, formed, rotated, balanced_in, group_done, section_done};
 ghost use Rattle.unlang_code.specs.Progressing.{come_to, done_in, ends_as};
 ghost use Rattle.unlang_code.specs.Serving.{IsServed, AreServed};
 
@@ -173,27 +173,29 @@ fn run_members<M: Module, W: World, O: Observer>(
     Ok(Progress::Going(leading))
 }
 
-/// Runs the members of a block that balances that stand before and behind the place at which it begins: those behind come first.
+/// Runs all members of a block, from that of a number on and once round.
 #[cycle(running)]
 fn run_around<M: Module, W: World, O: Observer>(
     alloc: Global,
     stack: &Stack<M>,
     section: Section,
     kind: GroupKind,
-    before: &[Statement],
-    from: &[Statement],
+    statements: &[Statement],
+    place: usize,
     scope: &mut Scope,
     world: &mut W,
     dict: &Dict,
     observer: &mut O,
 ) -> Result<Progress, NoMemory>
-    requires served { AreServed M.meaning stack.now section from.now × AreServed M.meaning stack.now section before.now }
+    requires within { place ≤ length statements.now }
+    requires served { AreServed M.meaning stack.now section statements.now }
     requires in_time { IsInTime scope.old.moment }
     requires changes { section ≡ Accounting → (W.state world.old).takes_changes ≡ true }
-    ensures ok { IfOk result (λ value. Reaches scope.old (W.state world.old) (λ s. come_to None (run_of M.meaning stack.now dict.now section kind (from.now ++ before.now) s)) scope.new (W.state world.new) (λ s. (s, value))) }
+    ensures ok { IfOk result (λ value. Reaches scope.old (W.state world.old) (λ s. come_to None (run_of M.meaning stack.now dict.now section kind (rotated place statements.now) s)) scope.new (W.state world.new) (λ s. (s, value))) }
     ensures in_time { OnOk result (IsInTime scope.new.moment) }
-    ensures memory { OnErr result (Stops scope.old (W.state world.old) (λ s. (run_of M.meaning stack.now dict.now section kind (from.now ++ before.now) s).situation.effects) (W.state world.new)) }
+    ensures memory { OnErr result (Stops scope.old (W.state world.old) (λ s. (run_of M.meaning stack.now dict.now section kind (rotated place statements.now) s).situation.effects) (W.state world.new)) }
 {
+    let (before, from) = statements.split_at(place);
     let so_far = run_members(
         alloc, stack, section, kind, None, from, scope, world, dict, observer,
     )?;
@@ -228,16 +230,16 @@ fn run_balanced<M: Module, W: World, O: Observer>(
     let Some(place) = picked(scope, statements.len()) else {
         return Ok(end_of(Progress::Going(None)));
     };
-    let (before, from) = statements.split_at(place);
     let so_far = match kind {
         GroupKind::Plain => {
+            let (_, from) = statements.split_at(place);
             let (one, _) = from.split_at(1);
             run_members(
                 alloc, stack, section, kind, None, one, scope, world, dict, observer,
             )?
         }
         GroupKind::Redundant => run_around(
-            alloc, stack, section, kind, before, from, scope, world, dict, observer,
+            alloc, stack, section, kind, statements, place, scope, world, dict, observer,
         )?,
     };
     scope.choices = scope.choices.wrapping_add(1);

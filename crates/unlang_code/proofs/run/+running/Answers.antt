@@ -3,58 +3,105 @@ use Rattle.std.specs.List.{AllByRecursion}
 use Rattle.rad_words.specs.declared.sections.Section.TheVariants.{Accounting}
 use Rattle.rad_outside.specs.Moments.{IsInTime}
 use Rattle.mod_base.specs.Reaching.{Reaches, Stops}
-use Rattle.unlang_tree.specs.EachCall.{calls_in, calls_in_kind}
+use Rattle.unlang_tree.specs.EachCall.{calls_in, calls_in_kind, calls_of}
 use Rattle.unlang_tree.specs.declared.statement.Group.{out-Group}
-use Rattle.unlang_code.specs.Run.{called, one_child, IsUpdate, kind_done, statement_done, run_of, formed, balanced_in, group_done, section_done}
+use Rattle.unlang_code.specs.Run.{called, one_child, IsUpdate, kind_done, statement_done, run_of, formed, rotated, balanced_in, group_done, section_done}
 use Rattle.unlang_code.specs.Progressing.{come_to, done_in, ends_as}
 use Rattle.unlang_code.specs.Serving.{IsServed, AreServed}
 use Rattle.unlang_tree.proofs.CallsWithin.{calls_of_group}
 use Rattle.unlang_tree.specs.declared.statement.Call.{Call}
-use Rattle.unlang_code.proofs.Served.{each_at}
+use Rattle.unlang_code.proofs.Served.{each_at, size_of_block, halves, most_halves}
 use Rattle.unlang_tree.proofs.statement.StatementKind.TheLaws as kind
 use Rattle.unlang_tree.proofs.statement.Group.TheLaws as group
 use Rattle.unlang_tree.specs.declared.statement.StatementKind.TheVariants as kinds
-use denote.Param.Weighed.{at_most}
+use denote.Param.Weighed.{at_most, most}
 use Rattle.unlang_tree.proofs.statement.Statement.TheLaws as one
-use Rattle.std.proofs.Common.{arith, suc, refl, drop, Option, sym, ap, subst, ◌∙◌}
-use Rattle.mod_base.proofs.Reached.{reaches_start, reaches_then, reaches_as}
+use Rattle.std.proofs.Common.{arith, suc, refl, take, drop, Option, sym, ap, subst, ◌∙◌}
+use Rattle.mod_base.proofs.Reached.{reaches_start, reaches_joined, reaches_then, reaches_as}
 use Rattle.unlang_tree.specs.declared.statement.Statement.{Statement}
 use Rattle.unlang_code.specs.declared.progress.Ended.{Ended}
 use Rattle.unlang_code.specs.Run.{Piece, returned}
 use Rattle.unlang_code.proofs.Pieces.{finished, ends_is}
+use Rattle.unlang_code.specs.declared.progress.Progress.{Progress}
+use Rattle.unlang_code.specs.declared.progress.Progress.TheVariants.{Going, Over}
+use Rattle.unlang_code.proofs.Balancing.{first_stops, first_done, others_stop, picked_within, none_done, ordered, balanced_done, balanced_stops, reaches_at}
 use Rattle.unlang_code.proofs.Trees.{by_kind, by_call, by_return, by_update, by_group}
-use Rattle.unlang_code.proofs.Running.{on_err, update_reaches, update_stops}
+use Rattle.unlang_code.proofs.Running.{on_err, if_err, if_ok, update_reaches, update_stops}
 use Rattle.unlang_code.proofs.Stepping.{left, from_here, goes_on_here, ends_here, stops_here, ends_behind}
 use Rattle.unlang_code.proofs.run.+running.Goals as goal
 
 -- src/run.rt:184:18
 pub run_around-run_members-requires : goal.run_around-run_members-requires
-run_around-run_members-requires g t c κs within = ?
+run_around-run_members-requires g t c κs within = 
+    let parts = halves (IsServed g.M.Module.meaning c.args.stack.now c.args.section) c.args.place c.args.statements.now c.requires.served in
+    let shorter = most_halves one.the_size c.args.place c.args.statements.now in
+    let from : most one.the_size c.split_at.result.1.now ≡ most one.the_size (drop c.args.place c.args.statements.now) = ap (most one.the_size) c.split_at.ensures.back in
+    (omega (arith, c.decreases, shorter.1, from), (search rules, (search rules, (search rules, (subst (λ statements. AllByRecursion (IsServed g.M.Module.meaning c.args.stack.now c.args.section) (calls_of statements)) (sym c.split_at.ensures.back) parts.1, (c.requires.in_time, c.requires.changes))))))
 
 -- src/run.rt:184:18
 pub run_around-returns-in_err-so_far-clause-memory :
     goal.run_around-returns-in_err-so_far-clause-memory
-run_around-returns-in_err-so_far-clause-memory g t c = ?
+run_around-returns-in_err-so_far-clause-memory g t c = 
+    let all = c.args.statements.now in
+    let from = c.split_at.result.1.now in
+    let before = c.split_at.result.0.now in
+    let round : from ++ before ≡ rotated c.args.place all = ap (λ (b : List Statement). from ++ b) c.split_at.ensures.front ∙ ap (λ (f : List Statement). f ++ take c.args.place all) c.split_at.ensures.back in
+    let Stopped : List Statement → Type 0 = λ (run : List Statement). Stops c.args.scope.now (g.W.World.state c.args.world.now) (λ s. (run_of g.M.Module.meaning c.args.stack.now c.args.dict.now c.args.section c.args.kind run s).situation.effects) (g.W.World.state c.run_members.new.world) in
+    on_err c.from_residual.result (subst Stopped round (first_stops g.M.Module.meaning c.args.stack.now c.args.dict.now c.args.section c.args.kind None from before c.args.scope.now c.run_members.new.scope (g.W.World.state c.args.world.now) (g.W.World.state c.run_members.new.world) g.met.M.Module.lawful c.in_err-so_far.ensures.memory))
 
 -- src/run.rt:164:1
 pub run_around-returns-in-Going-clause-ok : goal.run_around-returns-in-Going-clause-ok
-run_around-returns-in-Going-clause-ok g t c = ?
+run_around-returns-in-Going-clause-ok g t c = 
+    let all = c.args.statements.now in
+    let from = c.split_at.result.1.now in
+    let before = c.split_at.result.0.now in
+    let round : from ++ before ≡ rotated c.args.place all = ap (λ (b : List Statement). from ++ b) c.split_at.ensures.front ∙ ap (λ (f : List Statement). f ++ take c.args.place all) c.split_at.ensures.back in
+    let First : Progress → Type 0 = λ (p : Progress). Reaches c.args.scope.now (g.W.World.state c.args.world.now) (left g.M.Module.meaning c.args.stack.now c.args.dict.now c.args.section c.args.kind None from) c.run_members.new.scope (g.W.World.state c.run_members.new.world) (λ s. (s, p)) in
+    let first = subst First c.in-Going.is c.in_ok-so_far.ensures.ok in
+    if_ok c.run_members-in-Going.result
+    (λ value reached. subst (λ (run : List Statement). Reaches c.args.scope.now (g.W.World.state c.args.world.now) (left g.M.Module.meaning c.args.stack.now c.args.dict.now c.args.section c.args.kind None run) c.run_members-in-Going.new.scope (g.W.World.state c.run_members-in-Going.new.world) (λ s. (s, value))) round
+    (reaches_joined c.args.scope.now c.run_members.new.scope c.run_members-in-Going.new.scope (g.W.World.state c.args.world.now) (g.W.World.state c.run_members.new.world) (g.W.World.state c.run_members-in-Going.new.world) (left g.M.Module.meaning c.args.stack.now c.args.dict.now c.args.section c.args.kind None (from ++ before)) (left g.M.Module.meaning c.args.stack.now c.args.dict.now c.args.section c.args.kind c.in-Going.leading before) (λ s. (s, value)) (first_done g.M.Module.meaning c.args.stack.now c.args.dict.now c.args.section c.args.kind None from before c.args.scope.now c.run_members.new.scope (g.W.World.state c.args.world.now) (g.W.World.state c.run_members.new.world) (Going c.in-Going.leading) first) reached))
+    c.run_members-in-Going.ensures.ok
 
 -- src/run.rt:164:1
 pub run_around-returns-in-Going-clause-memory : goal.run_around-returns-in-Going-clause-memory
-run_around-returns-in-Going-clause-memory g t c = ?
+run_around-returns-in-Going-clause-memory g t c = 
+    let all = c.args.statements.now in
+    let from = c.split_at.result.1.now in
+    let before = c.split_at.result.0.now in
+    let round : from ++ before ≡ rotated c.args.place all = ap (λ (b : List Statement). from ++ b) c.split_at.ensures.front ∙ ap (λ (f : List Statement). f ++ take c.args.place all) c.split_at.ensures.back in
+    let First : Progress → Type 0 = λ (p : Progress). Reaches c.args.scope.now (g.W.World.state c.args.world.now) (left g.M.Module.meaning c.args.stack.now c.args.dict.now c.args.section c.args.kind None from) c.run_members.new.scope (g.W.World.state c.run_members.new.world) (λ s. (s, p)) in
+    let Stopped : List Statement → Type 0 = λ (run : List Statement). Stops c.args.scope.now (g.W.World.state c.args.world.now) (λ s. (run_of g.M.Module.meaning c.args.stack.now c.args.dict.now c.args.section c.args.kind run s).situation.effects) (g.W.World.state c.run_members-in-Going.new.world) in
+    let first = subst First c.in-Going.is c.in_ok-so_far.ensures.ok in
+    if_err c.run_members-in-Going.result (λ stopped. subst Stopped round (others_stop g.M.Module.meaning c.args.stack.now c.args.dict.now c.args.section c.args.kind None from before c.args.scope.now c.run_members.new.scope (g.W.World.state c.args.world.now) (g.W.World.state c.run_members.new.world) (g.W.World.state c.run_members-in-Going.new.world) c.in-Going.leading first stopped)) c.run_members-in-Going.ensures.memory
 
 -- src/run.rt:164:1
 pub run_around-returns-in-Over-clause-ok : goal.run_around-returns-in-Over-clause-ok
-run_around-returns-in-Over-clause-ok g t c = ?
+run_around-returns-in-Over-clause-ok g t c = 
+    let all = c.args.statements.now in
+    let from = c.split_at.result.1.now in
+    let before = c.split_at.result.0.now in
+    let round : from ++ before ≡ rotated c.args.place all = ap (λ (b : List Statement). from ++ b) c.split_at.ensures.front ∙ ap (λ (f : List Statement). f ++ take c.args.place all) c.split_at.ensures.back in
+    let First : Progress → Type 0 = λ (p : Progress). Reaches c.args.scope.now (g.W.World.state c.args.world.now) (left g.M.Module.meaning c.args.stack.now c.args.dict.now c.args.section c.args.kind None from) c.run_members.new.scope (g.W.World.state c.run_members.new.world) (λ s. (s, p)) in
+    let first = subst First c.in-Over.is c.in_ok-so_far.ensures.ok in
+    subst (λ (run : List Statement). Reaches c.args.scope.now (g.W.World.state c.args.world.now) (left g.M.Module.meaning c.args.stack.now c.args.dict.now c.args.section c.args.kind None run) c.run_members.new.scope (g.W.World.state c.run_members.new.world) (λ s. (s, Over c.in-Over.ended))) round (first_done g.M.Module.meaning c.args.stack.now c.args.dict.now c.args.section c.args.kind None from before c.args.scope.now c.run_members.new.scope (g.W.World.state c.args.world.now) (g.W.World.state c.run_members.new.world) (Over c.in-Over.ended) first)
 
 -- src/run.rt:216:9
 pub run_balanced-returns-in_default-clause-ok : goal.run_balanced-returns-in_default-clause-ok
-run_balanced-returns-in_default-clause-ok g t c = ?
+run_balanced-returns-in_default-clause-ok g t c = none_done g.M.Module.meaning c.args.stack.now c.args.dict.now c.args.section c.args.kind c.args.statements.now c.args.scope.now c.args.scope.now (g.W.World.state c.args.world.now) (g.W.World.state c.args.world.now) c.end_of.result (sym c.in_default.is ∙ c.picked.ensures) c.end_of.ensures
 
 -- src/run.rt:222:13
 pub run_balanced-run_members-requires : goal.run_balanced-run_members-requires
-run_balanced-run_members-requires g t c κs within = ?
+run_balanced-run_members-requires g t c κs within = 
+    let all = c.args.statements.now in
+    let place = c.in-Some.place in
+    let one_is = c.split_at-in-Plain.ensures.front ∙ ap (take 1) c.split_at.ensures.back in
+    let behind = halves (IsServed g.M.Module.meaning c.args.stack.now c.args.section) place all c.requires.served in
+    let first = halves (IsServed g.M.Module.meaning c.args.stack.now c.args.section) 1 (drop place all) behind.1 in
+    let shorter = most_halves one.the_size place all in
+    let shortest = most_halves one.the_size 1 (drop place all) in
+    let size : most one.the_size c.split_at-in-Plain.result.0.now ≡ most one.the_size (take 1 (drop place all)) = ap (most one.the_size) one_is in
+    (omega (arith, c.decreases, shorter.1, shortest.0, size), (search rules, (search rules, (search rules, (subst (λ statements. AllByRecursion (IsServed g.M.Module.meaning c.args.stack.now c.args.section) (calls_of statements)) (sym one_is) first.0, (c.requires.in_time, c.requires.changes))))))
 
 -- src/run.rt:222:13
 pub run_balanced-returns-in_err-so_far-in-Plain-clause-memory :
@@ -63,7 +110,7 @@ run_balanced-returns-in_err-so_far-in-Plain-clause-memory g t c = ?
 
 -- src/run.rt:226:33
 pub run_balanced-run_around-requires : goal.run_balanced-run_around-requires
-run_balanced-run_around-requires g t c κs within = ?
+run_balanced-run_around-requires g t c κs within = (omega (arith, c.decreases), (search rules, (search rules, (search rules, (picked_within c.args.scope.now (length c.args.statements.now) c.in-Some.place (sym c.in-Some.is ∙ c.picked.ensures), (c.requires.served, (c.requires.in_time, c.requires.changes)))))))
 
 -- src/run.rt:226:33
 pub run_balanced-returns-in_err-so_far-in-Redundant-clause-memory :
@@ -109,7 +156,7 @@ run_in_order-returns-clause-ok g t c =
 
 -- src/run.rt:89:40
 pub run_kind-run_group-requires : goal.run_kind-run_group-requires
-run_kind-run_group-requires g t c κs within = (?, (search rules, (search rules, (search rules, (subst (AllByRecursion (IsServed g.M.Module.meaning c.args.stack.now c.args.section)) (ap calls_in_kind c.in-Group.is ∙ calls_of_group c.in-Group.group) c.requires.served, (c.requires.in_time, c.requires.changes))))))
+run_kind-run_group-requires g t c κs within = (omega (arith, c.decreases, ap kind.the_size c.in-Group.is, size_of_block c.in-Group.group), (search rules, (search rules, (search rules, (subst (AllByRecursion (IsServed g.M.Module.meaning c.args.stack.now c.args.section)) (ap calls_in_kind c.in-Group.is ∙ calls_of_group c.in-Group.group) c.requires.served, (c.requires.in_time, c.requires.changes))))))
 
 -- src/run.rt:94:25
 pub run_kind-returns-in_err-child-in-Update-clause-memory :
