@@ -28,6 +28,11 @@ use Rattle.unlang_code.proofs.Balancing.{first_stops, first_done, others_stop, p
 use Rattle.unlang_code.proofs.Trees.{by_kind, by_call, by_return, by_update, by_group}
 use Rattle.unlang_code.proofs.Running.{on_err, if_err, if_ok, update_reaches, update_stops}
 use Rattle.unlang_code.proofs.Stepping.{left, from_here, goes_on_here, ends_here, stops_here, ends_behind}
+use Rattle.std.proofs.Common.{Some}
+use Rattle.mod_base.specs.Situation.{Situation}
+use Rattle.rad_tables.specs.declared.group_kind.GroupKind.{GroupKind}
+use Rattle.unlang_code.specs.Run.{picked_of}
+use Rattle.unlang_code.proofs.run.+running.Goals.{run_balanced-in-Plain+in_ok-so_far-in-Plain, run_balanced-in-Redundant+in_ok-so_far-in-Redundant}
 use Rattle.unlang_code.proofs.run.+running.Goals as goal
 
 -- src/run.rt:184:18
@@ -106,7 +111,13 @@ run_balanced-run_members-requires g t c κs within =
 -- src/run.rt:222:13
 pub run_balanced-returns-in_err-so_far-in-Plain-clause-memory :
     goal.run_balanced-returns-in_err-so_far-in-Plain-clause-memory
-run_balanced-returns-in_err-so_far-in-Plain-clause-memory g t c = ?
+run_balanced-returns-in_err-so_far-in-Plain-clause-memory g t c = 
+    let all = c.args.statements.now in
+    let place = c.in-Some.place in
+    let is : Some place ≡ picked_of c.args.scope.now (length all) = sym c.in-Some.is ∙ c.picked.ensures in
+    let runs : ordered c.args.kind place all ≡ c.split_at-in-Plain.result.0.now = ap (λ (k : GroupKind). ordered k place all) c.in-Plain.is ∙ sym (c.split_at-in-Plain.ensures.front ∙ ap (take 1) c.split_at.ensures.back) in
+    let Stopped : List Statement → Type 0 = λ (run : List Statement). Stops c.args.scope.now (g.W.World.state c.args.world.now) (λ s. (run_of g.M.Module.meaning c.args.stack.now c.args.dict.now c.args.section c.args.kind run s).situation.effects) (g.W.World.state c.run_members.new.world) in
+    on_err c.from_residual.result (balanced_stops g.M.Module.meaning c.args.stack.now c.args.dict.now c.args.section c.args.kind all c.args.scope.now c.args.scope.now (g.W.World.state c.args.world.now) (g.W.World.state c.run_members.new.world) place is (subst Stopped (sym runs) c.in_err-so_far-in-Plain.ensures.memory))
 
 -- src/run.rt:226:33
 pub run_balanced-run_around-requires : goal.run_balanced-run_around-requires
@@ -115,11 +126,32 @@ run_balanced-run_around-requires g t c κs within = (omega (arith, c.decreases),
 -- src/run.rt:226:33
 pub run_balanced-returns-in_err-so_far-in-Redundant-clause-memory :
     goal.run_balanced-returns-in_err-so_far-in-Redundant-clause-memory
-run_balanced-returns-in_err-so_far-in-Redundant-clause-memory g t c = ?
+run_balanced-returns-in_err-so_far-in-Redundant-clause-memory g t c = 
+    let all = c.args.statements.now in
+    let place = c.in-Some.place in
+    let is : Some place ≡ picked_of c.args.scope.now (length all) = sym c.in-Some.is ∙ c.picked.ensures in
+    let runs : ordered c.args.kind place all ≡ rotated place all = ap (λ (k : GroupKind). ordered k place all) c.in-Redundant.is in
+    let Stopped : List Statement → Type 0 = λ (run : List Statement). Stops c.args.scope.now (g.W.World.state c.args.world.now) (λ s. (run_of g.M.Module.meaning c.args.stack.now c.args.dict.now c.args.section c.args.kind run s).situation.effects) (g.W.World.state c.run_around.new.world) in
+    on_err c.from_residual-in_err-so_far-in-Redundant.result (balanced_stops g.M.Module.meaning c.args.stack.now c.args.dict.now c.args.section c.args.kind all c.args.scope.now c.args.scope.now (g.W.World.state c.args.world.now) (g.W.World.state c.run_around.new.world) place is (subst Stopped (sym runs) c.in_err-so_far-in-Redundant.ensures.memory))
 
 -- src/run.rt:196:1
 pub run_balanced-returns-clause-ok : goal.run_balanced-returns-clause-ok
-run_balanced-returns-clause-ok g t c = ?
+run_balanced-returns-clause-ok g t c = 
+    let all = c.args.statements.now in
+    let place = c.in-Some.place in
+    let is : Some place ≡ picked_of c.args.scope.now (length all) = sym c.in-Some.is ∙ c.picked.ensures in
+    balanced_done g.M.Module.meaning c.args.stack.now c.args.dict.now c.args.section c.args.kind all c.args.scope.now c.match-kind.scope (g.W.World.state c.args.world.now) (g.W.World.state c.match-kind.world) place is c.match-kind.so_far c.end_of-2.result
+    (elim c.match-kind.branch [
+      | run_balanced-in-Plain+in_ok-so_far-in-Plain w ↦ reaches_at c.args.scope.now w.run_members.new.scope c.match-kind.scope (g.W.World.state c.args.world.now) (g.W.World.state w.run_members.new.world) (g.W.World.state c.match-kind.world) (left g.M.Module.meaning c.args.stack.now c.args.dict.now c.args.section c.args.kind None (ordered c.args.kind place all)) (λ (p : Progress) (s : Situation). (s, p)) w.in_ok-so_far-in-Plain.so_far c.match-kind.so_far w.scope-is (ap g.W.World.state w.world-is) w.so_far-is
+          (let runs : ordered c.args.kind place all ≡ w.split_at-in-Plain.result.0.now = ap (λ (k : GroupKind). ordered k place all) w.in-Plain.is ∙ sym (w.split_at-in-Plain.ensures.front ∙ ap (take 1) w.split_at.ensures.back) in
+          let Reached : List Statement → Type 0 = λ (run : List Statement). Reaches c.args.scope.now (g.W.World.state c.args.world.now) (left g.M.Module.meaning c.args.stack.now c.args.dict.now c.args.section c.args.kind None run) w.run_members.new.scope (g.W.World.state w.run_members.new.world) (λ s. (s, w.in_ok-so_far-in-Plain.so_far)) in
+          subst Reached (sym runs) w.in_ok-so_far-in-Plain.ensures.ok)
+      | run_balanced-in-Redundant+in_ok-so_far-in-Redundant w ↦ reaches_at c.args.scope.now w.run_around.new.scope c.match-kind.scope (g.W.World.state c.args.world.now) (g.W.World.state w.run_around.new.world) (g.W.World.state c.match-kind.world) (left g.M.Module.meaning c.args.stack.now c.args.dict.now c.args.section c.args.kind None (ordered c.args.kind place all)) (λ (p : Progress) (s : Situation). (s, p)) w.in_ok-so_far-in-Redundant.so_far c.match-kind.so_far w.scope-is (ap g.W.World.state w.world-is) w.so_far-is
+          (let runs : ordered c.args.kind place all ≡ rotated place all = ap (λ (k : GroupKind). ordered k place all) w.in-Redundant.is in
+          let Reached : List Statement → Type 0 = λ (run : List Statement). Reaches c.args.scope.now (g.W.World.state c.args.world.now) (left g.M.Module.meaning c.args.stack.now c.args.dict.now c.args.section c.args.kind None run) w.run_around.new.scope (g.W.World.state w.run_around.new.world) (λ s. (s, w.in_ok-so_far-in-Redundant.so_far)) in
+          subst Reached (sym runs) w.in_ok-so_far-in-Redundant.ensures.ok)
+    ])
+    c.end_of-2.ensures
 
 -- src/run.rt:261:1
 pub run_formed-returns-in-Group-clause-memory : goal.run_formed-returns-in-Group-clause-memory
