@@ -7,7 +7,6 @@ use denote.Param.Weighed.{most, most-append}
 use Rattle.unlang_tree.specs.declared.statement.Call.{Call}
 use Rattle.unlang_tree.specs.declared.statement.Statement.{Statement}
 use Rattle.unlang_tree.specs.EachCall.{calls_in, calls_of}
-
 use Rattle.unlang_tree.specs.declared.statement.StatementKind.{size-StatementKind, size_is-StatementKind}
 use Rattle.unlang_tree.specs.declared.statement.StatementKind.TheVariants as kinds
 use Rattle.unlang_tree.specs.declared.statement.Group.{Group}

@@ -37,16 +37,24 @@ use Rattle.unlang_code.proofs.run.+running.Goals as goal
 
 -- src/run.rt:184:18
 pub run_around-run_members-requires : goal.run_around-run_members-requires
-run_around-run_members-requires g t c κs within = 
+run_around-run_members-requires g t c κs within =
     let parts = halves (IsServed g.M.Module.meaning c.args.stack.now c.args.section) c.args.place c.args.statements.now c.requires.served in
     let shorter = most_halves one.the_size c.args.place c.args.statements.now in
     let from : most one.the_size c.split_at.result.1.now ≡ most one.the_size (drop c.args.place c.args.statements.now) = ap (most one.the_size) c.split_at.ensures.back in
     (omega (arith, c.decreases, shorter.1, from), (search rules, (search rules, (search rules, (subst (λ statements. AllByRecursion (IsServed g.M.Module.meaning c.args.stack.now c.args.section) (calls_of statements)) (sym c.split_at.ensures.back) parts.1, (c.requires.in_time, c.requires.changes))))))
 
+-- src/run.rt:203:37
+pub run_around-run_members-requires-in-Going : goal.run_around-run_members-requires-in-Going
+run_around-run_members-requires-in-Going g t c κs within =
+    let parts = halves (IsServed g.M.Module.meaning c.args.stack.now c.args.section) c.args.place c.args.statements.now c.requires.served in
+    let shorter = most_halves one.the_size c.args.place c.args.statements.now in
+    let before : most one.the_size c.split_at.result.0.now ≡ most one.the_size (take c.args.place c.args.statements.now) = ap (most one.the_size) c.split_at.ensures.front in
+    (omega (arith, c.decreases, shorter.0, before), (search rules, (search rules, (search rules, (subst (λ statements. AllByRecursion (IsServed g.M.Module.meaning c.args.stack.now c.args.section) (calls_of statements)) (sym c.split_at.ensures.front) parts.0, (c.in_ok-so_far.ensures.in_time, search rules))))))
+
 -- src/run.rt:184:18
 pub run_around-returns-in_err-so_far-clause-memory :
     goal.run_around-returns-in_err-so_far-clause-memory
-run_around-returns-in_err-so_far-clause-memory g t c = 
+run_around-returns-in_err-so_far-clause-memory g t c =
     let all = c.args.statements.now in
     let from = c.split_at.result.1.now in
     let before = c.split_at.result.0.now in
@@ -56,7 +64,7 @@ run_around-returns-in_err-so_far-clause-memory g t c =
 
 -- src/run.rt:164:1
 pub run_around-returns-in-Going-clause-ok : goal.run_around-returns-in-Going-clause-ok
-run_around-returns-in-Going-clause-ok g t c = 
+run_around-returns-in-Going-clause-ok g t c =
     let all = c.args.statements.now in
     let from = c.split_at.result.1.now in
     let before = c.split_at.result.0.now in
@@ -70,7 +78,7 @@ run_around-returns-in-Going-clause-ok g t c =
 
 -- src/run.rt:164:1
 pub run_around-returns-in-Going-clause-memory : goal.run_around-returns-in-Going-clause-memory
-run_around-returns-in-Going-clause-memory g t c = 
+run_around-returns-in-Going-clause-memory g t c =
     let all = c.args.statements.now in
     let from = c.split_at.result.1.now in
     let before = c.split_at.result.0.now in
@@ -82,7 +90,7 @@ run_around-returns-in-Going-clause-memory g t c =
 
 -- src/run.rt:164:1
 pub run_around-returns-in-Over-clause-ok : goal.run_around-returns-in-Over-clause-ok
-run_around-returns-in-Over-clause-ok g t c = 
+run_around-returns-in-Over-clause-ok g t c =
     let all = c.args.statements.now in
     let from = c.split_at.result.1.now in
     let before = c.split_at.result.0.now in
@@ -97,7 +105,7 @@ run_balanced-returns-in_default-clause-ok g t c = none_done g.M.Module.meaning c
 
 -- src/run.rt:222:13
 pub run_balanced-run_members-requires : goal.run_balanced-run_members-requires
-run_balanced-run_members-requires g t c κs within = 
+run_balanced-run_members-requires g t c κs within =
     let all = c.args.statements.now in
     let place = c.in-Some.place in
     let one_is = c.split_at-in-Plain.ensures.front ∙ ap (take 1) c.split_at.ensures.back in
@@ -111,7 +119,7 @@ run_balanced-run_members-requires g t c κs within =
 -- src/run.rt:222:13
 pub run_balanced-returns-in_err-so_far-in-Plain-clause-memory :
     goal.run_balanced-returns-in_err-so_far-in-Plain-clause-memory
-run_balanced-returns-in_err-so_far-in-Plain-clause-memory g t c = 
+run_balanced-returns-in_err-so_far-in-Plain-clause-memory g t c =
     let all = c.args.statements.now in
     let place = c.in-Some.place in
     let is : Some place ≡ picked_of c.args.scope.now (length all) = sym c.in-Some.is ∙ c.picked.ensures in
@@ -126,7 +134,7 @@ run_balanced-run_around-requires g t c κs within = (omega (arith, c.decreases),
 -- src/run.rt:226:33
 pub run_balanced-returns-in_err-so_far-in-Redundant-clause-memory :
     goal.run_balanced-returns-in_err-so_far-in-Redundant-clause-memory
-run_balanced-returns-in_err-so_far-in-Redundant-clause-memory g t c = 
+run_balanced-returns-in_err-so_far-in-Redundant-clause-memory g t c =
     let all = c.args.statements.now in
     let place = c.in-Some.place in
     let is : Some place ≡ picked_of c.args.scope.now (length all) = sym c.in-Some.is ∙ c.picked.ensures in
@@ -136,7 +144,7 @@ run_balanced-returns-in_err-so_far-in-Redundant-clause-memory g t c =
 
 -- src/run.rt:196:1
 pub run_balanced-returns-clause-ok : goal.run_balanced-returns-clause-ok
-run_balanced-returns-clause-ok g t c = 
+run_balanced-returns-clause-ok g t c =
     let all = c.args.statements.now in
     let place = c.in-Some.place in
     let is : Some place ≡ picked_of c.args.scope.now (length all) = sym c.in-Some.is ∙ c.picked.ensures in
