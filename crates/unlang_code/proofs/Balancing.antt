@@ -1,7 +1,7 @@
 -- Members before and behind a place, and blocks that balance.
 use Rattle.std.specs.Prelude.{map, length, ◌==◌}
 use Rattle.std.specs.List.{drop-map, take-map}
-use Rattle.std.proofs.Common.{◌≡◌, ℕ, suc, ◌≤◌, ◌%◌, Bool, true, false, cond, arith, List, [], ◌∷◌, ◌++◌, take, drop, Option, Some, None, refl, sym, ap, subst, ◌∙◌}
+use Rattle.std.proofs.Common.{◌≡◌, ℕ, ◌≤◌, Bool, true, false, cond, arith, List, [], ◌∷◌, ◌++◌, take, drop, Option, Some, None, refl, sym, ap, subst, ◌∙◌}
 use Rattle.std.proofs.lemmas.List.{append-nil, map-append, length-map}
 use Rattle.std.proofs.lemmas.Bool.Decides.{nat_tests}
 use Rattle.rad_words.specs.declared.sections.Section.{Section}
@@ -14,13 +14,12 @@ use Rattle.rad_world.specs.World.{WorldState}
 use Rattle.mod_base.specs.Situation.{Situation, situation_in}
 use Rattle.mod_base.specs.Meaning.{Meaning, IsLawful}
 use Rattle.mod_base.specs.Reaching.{Reaches, Stops}
-use Rattle.mod_base.proofs.Reached.{reaches_start, reaches_joined, reaches_then, reaches_as, stops_joined, stops_then}
+use Rattle.mod_base.proofs.Reached.{reaches_joined, reaches_then, reaches_as, stops_joined, stops_then}
 use Rattle.unlang_tree.specs.declared.statement.Statement.{Statement}
 use Rattle.unlang_code.specs.declared.judgement.Child.{Child}
 use Rattle.unlang_code.specs.declared.progress.Ended.{Ended}
 use Rattle.unlang_code.specs.declared.progress.Progress.{Progress}
 use Rattle.unlang_code.specs.declared.progress.Progress.TheVariants.{Going, Over}
-use Rattle.unlang_code.specs.declared.progress.Signal.TheVariants.{Goes}
 use Rattle.unlang_code.specs.Progress.{end_of}
 use Rattle.unlang_code.specs.Progressing.{come_to, ends_as}
 use Rattle.unlang_code.specs.Run.{Piece, Outcome, in_scope, with_choice, block_of, nothing, picked, picked_of, alone, rotated, chosen, balanced_in, statement_done, run_of}

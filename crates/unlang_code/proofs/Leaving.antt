@@ -23,9 +23,9 @@ use Rattle.unlang_tree.specs.declared.statement.StatementKind.{StatementKind}
 use Rattle.unlang_tree.specs.declared.statement.StatementKind.{roll-StatementKind}
 use Rattle.unlang_tree.specs.declared.statement.StatementKind.TheOpen.{StatementKind-F, Group-F, Statement-F}
 use Rattle.unlang_tree.specs.declared.statement.StatementKind.TheOpen as level
-use Rattle.unlang_tree.specs.declared.statement.StatementKind.TheFolds.{map-StatementKind, fold_out-Group, fold_out-Statement, fold-roll-StatementKind, fold-roll-Statement, ind-Statement}
-use Rattle.unlang_code.specs.Run.{kind_step, group_step, statement_step, Outcome, Piece, in_scope, with_last, with_choice, updated_to, updated, called_of, called, is_over, and_then, block_of, picked, alone, rotated, chosen, balanced, balanced_in, formed, grouped, group_done, statement_done, kind_done, run_of}
-use Rattle.unlang_code.specs.Leaves.{Leaf, Calls, Edits, module_done, leaf_done, leaves_in, leaves_at, leaves_of, EachLeaf, kind_leaves, group_leaves, statement_leaves, joined}
+use Rattle.unlang_tree.specs.declared.statement.StatementKind.TheFolds.{map-StatementKind, fold_out-Group, fold-roll-StatementKind, fold-roll-Statement, ind-Statement}
+use Rattle.unlang_code.specs.Run.{kind_step, group_step, statement_step, Outcome, Piece, in_scope, with_last, with_choice, updated_to, updated, called_of, called, is_over, and_then, block_of, picked, alone, rotated, balanced_in, formed, group_done, statement_done, kind_done, run_of}
+use Rattle.unlang_code.specs.Leaves.{Leaf, Calls, Edits, module_done, leaf_done, leaves_in, leaves_at, leaves_of, kind_leaves, group_leaves, statement_leaves, joined}
 
 -- a relation of a situation to a later one, which stays where a code is noted or a choice is made
 pub record IsLasting (R : Situation → Situation → Type 0) : Type 0 where

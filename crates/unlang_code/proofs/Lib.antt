@@ -7,6 +7,7 @@ pub mod Running
 pub mod Stepping
 pub mod Served
 pub mod Balancing
+pub mod Sectioning
 pub mod Finding
 pub mod Keeping
 pub mod FrameLaws

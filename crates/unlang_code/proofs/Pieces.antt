@@ -1,22 +1,20 @@
 -- Blocks of pieces, child by child.
-use Rattle.std.specs.Prelude.{map, length, slice_get}
-use Rattle.std.specs.List.{list_any, flat_map, AllByRecursion}
-use Rattle.std.specs.Option.{option_map, option_to_list}
-use Rattle.std.proofs.Common.{◌≡◌, ℕ, Bool, true, false, ◌||◌, cond, List, [], ◌∷◌, ◌++◌, Option, Some, None, refl, sym, ap, subst, ◌∙◌}
+use Rattle.std.specs.List.{list_any}
+use Rattle.std.specs.Option.{option_to_list}
+use Rattle.std.proofs.Common.{◌≡◌, Bool, true, false, ◌||◌, cond, List, [], ◌∷◌, ◌++◌, Option, Some, None, refl, sym, ap, ◌∙◌}
 use Rattle.rad_words.specs.declared.codes.Code.{Code}
 use Rattle.rad_tables.specs.declared.group_kind.GroupKind.{GroupKind}
 use Rattle.mod_base.specs.Situation.{Situation}
 use Rattle.unlang_code.specs.declared.judgement.Child.{Child}
 use Rattle.unlang_code.specs.declared.progress.Signal.{Signal}
 use Rattle.unlang_code.specs.declared.progress.Signal.TheVariants.{Goes, Returns}
-use Rattle.unlang_code.specs.declared.progress.Done.{Done}
 use Rattle.unlang_code.specs.declared.progress.Ended.{Ended}
 use Rattle.unlang_code.specs.declared.progress.Progress.{Progress}
 use Rattle.unlang_code.specs.declared.progress.Progress.TheVariants.{Going, Over}
-use Rattle.unlang_code.specs.Judgement.{ends, ended_by, ending_code, heavier_of, judged}
+use Rattle.unlang_code.specs.Judgement.{ends, ended_by, ending_code, heavier_of}
 use Rattle.unlang_code.specs.Run.{Outcome, Piece, is_over, and_then, block_of}
-use Rattle.unlang_code.specs.Progress.{stopped, by_end, after_child, absorbed_by, absorbed, end_of}
-use Rattle.unlang_code.specs.Progressing.{progressed, come_to, done_in, ends_as}
+use Rattle.unlang_code.specs.Progress.{by_end, absorbed_by, end_of}
+use Rattle.unlang_code.specs.Progressing.{progressed, come_to, ends_as}
 use Rattle.unlang_code.proofs.Judging.{judged_behind, judged_is}
 
 -- what is left of a group behind so much of it

@@ -1,7 +1,7 @@
 -- Statements are run one by one.
 use Rattle.std.specs.Prelude.{slice_get, OnErr, IfOk, Result, Ok, Err}
 use Rattle.std.specs.List.{AllByRecursion}
-use Rattle.std.proofs.Common.{◌≡◌, Bool, true, false, List, [], ◌∷◌, ◌++◌, Option, Some, None, sym, ap, subst, ◌∙◌, append_assoc}
+use Rattle.std.proofs.Common.{◌≡◌, Bool, List, [], ◌∷◌, ◌++◌, Option, Some, None, sym, ap, subst, ◌∙◌, append_assoc}
 use Rattle.std.proofs.lemmas.List.{append-nil}
 use Rattle.rad_words.specs.declared.codes.Code.{Code}
 use Rattle.rad_words.specs.declared.codes.Code.TheVariants as code
@@ -19,7 +19,7 @@ use Rattle.rad_world.proofs.Joining.{gains_nothing}
 use Rattle.mod_base.specs.Situation.{Situation, situation_in}
 use Rattle.mod_base.specs.Meaning.{Meaning, IsLawful}
 use Rattle.mod_base.specs.Reaching.{Reaches, Stops}
-use Rattle.mod_base.proofs.Reached.{stops_then, stops_start}
+use Rattle.mod_base.proofs.Reached.{stops_start}
 use Rattle.unlang_tree.specs.declared.statement.Call.{Call}
 use Rattle.unlang_tree.specs.declared.statement.Statement.{Statement}
 use Rattle.unlang_code.specs.declared.judgement.Child.{Child}

@@ -10,14 +10,9 @@ use Rattle.unlang_tree.specs.EachCall.{calls_in, calls_of}
 use Rattle.unlang_tree.specs.declared.statement.StatementKind.{size-StatementKind, size_is-StatementKind}
 use Rattle.unlang_tree.specs.declared.statement.StatementKind.TheVariants as kinds
 use Rattle.unlang_tree.specs.declared.statement.Group.{Group}
-use Rattle.unlang_tree.specs.declared.statement.StatementKind.{roll-StatementKind, out-StatementKind, out-roll-StatementKind}
-use Rattle.unlang_tree.specs.declared.statement.StatementKind.TheOpen as level
-use Rattle.unlang_tree.specs.declared.statement.StatementKind.{StatementKind}
 use Rattle.unlang_tree.specs.declared.statement.StatementKind.TheVariants.{rolls-Group, outs-Group}
 use Rattle.unlang_tree.specs.declared.statement.Group.{size-Group}
-use Rattle.unlang_tree.proofs.statement.StatementKind.TheLaws as laws_of_kind
-use Rattle.unlang_tree.proofs.statement.Group.TheLaws as laws_of_group
-use Rattle.std.proofs.Common.{refl, ◌+◌}
+use Rattle.std.proofs.Common.{◌+◌}
 
 -- a block is deeper than its statements
 pub size_of_block : (group : Group) → size-StatementKind (kinds.Group group) ≡ size-Group group + 1

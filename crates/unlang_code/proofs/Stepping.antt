@@ -1,13 +1,13 @@
 -- Statements are run one by one, behind the heaviest child so far.
 use Rattle.std.proofs.lemmas.List.{drop_more, drop_all}
-use Rattle.std.proofs.Common.{◌≡◌, ℕ, ◌+◌, ◌<◌, ◌≤◌, List, [], ◌∷◌, length, drop, get_or, Option, Some, None, refl, sym, ap, ◌∙◌}
+use Rattle.std.proofs.Common.{◌≡◌, ℕ, ◌+◌, ◌<◌, ◌≤◌, List, [], ◌∷◌, length, drop, get_or, Option, refl, sym, ap, ◌∙◌}
 use Rattle.rad_words.specs.declared.sections.Section.{Section}
 use Rattle.rad_tables.specs.declared.group_kind.GroupKind.{GroupKind}
 use Rattle.rad_value.specs.declared.scope.Scope.{Scope}
 use Rattle.rad_outside.specs.Moments.{IsInTime}
 use Rattle.rad_dict.specs.Definitions.{Definitions}
 use Rattle.rad_world.specs.World.{WorldState}
-use Rattle.mod_base.specs.Situation.{Situation, situation_in}
+use Rattle.mod_base.specs.Situation.{Situation}
 use Rattle.mod_base.specs.Meaning.{Meaning, IsLawful}
 use Rattle.mod_base.specs.Reaching.{Reaches, Stops}
 use Rattle.mod_base.proofs.Reached.{reaches_joined, reaches_then, reaches_as, stops_joined, stops_then}

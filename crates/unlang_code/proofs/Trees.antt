@@ -1,22 +1,17 @@
 -- What statements mean, by what they are: a fact of each statement alone that blocks hand on.
-use Rattle.std.specs.Prelude.{map}
-use Rattle.std.specs.List.{AllByRecursion}
-use Rattle.std.proofs.Common.{◌≡◌, List, [], ◌∷◌, ◌++◌, refl, sym, ap, subst, ◌∙◌}
+use Rattle.std.proofs.Common.{◌≡◌, List, sym, ap, ◌∙◌}
 use Rattle.rad_words.specs.declared.sections.Section.{Section}
 use Rattle.rad_value.specs.declared.edits.Edit.{Edit}
 use Rattle.rad_dict.specs.Definitions.{Definitions}
 use Rattle.mod_base.specs.Meaning.{Meaning}
 use Rattle.unlang_tree.specs.declared.statement.Call.{Call}
-use Rattle.unlang_tree.specs.declared.statement.Group.{Group, out-Group}
-use Rattle.unlang_tree.specs.declared.statement.GroupForm.{GroupForm}
-use Rattle.unlang_tree.specs.declared.statement.Override.{Override}
+use Rattle.unlang_tree.specs.declared.statement.Group.{Group}
 use Rattle.unlang_tree.specs.declared.statement.Statement.{Statement}
-use Rattle.unlang_tree.specs.declared.statement.StatementKind.{StatementKind}
 use Rattle.unlang_tree.specs.declared.statement.StatementKind.TheVariants as kinds
 use Rattle.unlang_tree.specs.declared.statement.StatementKind.TheVariants.{rolls-Call, rolls-Group, rolls-Return, rolls-Update}
 use Rattle.unlang_tree.specs.declared.statement.StatementKind.TheOpen.{StatementKind-F, Group-F, Statement-F}
 use Rattle.unlang_tree.specs.declared.statement.StatementKind.TheOpen as level
-use Rattle.unlang_tree.specs.declared.statement.StatementKind.TheFolds.{fold_out-Group, fold_out-Statement, fold-roll-StatementKind, ind-Statement}
+use Rattle.unlang_tree.specs.declared.statement.StatementKind.TheFolds.{fold_out-Group, fold_out-Statement, fold-roll-StatementKind}
 use Rattle.unlang_code.specs.Run.{Piece, called, returned, updated, group_done, kind_step, group_step, statement_step, kind_done, statement_done}
 
 module _ {M : Type 0} (meaning : Meaning M) (stack : List M) (dict : Definitions) (section : Section) where

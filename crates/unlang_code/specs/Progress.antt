@@ -1,5 +1,5 @@
 -- How far the statements of a group have come, child by child. This project's own: it serves the run alone.
-use Rattle.std.specs.Prelude.{List, [], ◌∷◌, Option, Some, None}
+use Rattle.std.specs.Prelude.{Option, Some, None}
 use Rattle.std.specs.Option.{option_map}
 use Rattle.rad_words.specs.declared.codes.Code.{Code}
 use Rattle.unlang_code.specs.declared.judgement.Child.{Child}

@@ -1,7 +1,6 @@
 -- How far the statements of a group have come, by the outcome that they mean. This project's own: it serves the run alone.
 use Rattle.std.specs.Prelude.{List, [], ◌∷◌, Option, Some, None}
 use Rattle.std.specs.Option.{option_map, option_to_list}
-use Rattle.rad_words.specs.declared.codes.Code.{Code}
 use Rattle.rad_words.specs.declared.sections.Section.{Section}
 use Rattle.rad_tables.specs.declared.group_kind.GroupKind.{GroupKind}
 use Rattle.mod_base.specs.Situation.{Situation}
@@ -12,9 +11,9 @@ use Rattle.unlang_code.specs.declared.progress.Signal.TheVariants.{Goes, Returns
 use Rattle.unlang_code.specs.declared.progress.Done.{Done}
 use Rattle.unlang_code.specs.declared.progress.Ended.{Ended}
 use Rattle.unlang_code.specs.declared.progress.Progress.{Progress}
-use Rattle.unlang_code.specs.declared.progress.Progress.TheVariants.{Going, Over}
+use Rattle.unlang_code.specs.declared.progress.Progress.TheVariants.{Over}
 use Rattle.unlang_code.specs.Judgement.{child_of, judged, heavier_of}
-use Rattle.unlang_code.specs.Progress.{stopped, by_end, absorbed_by}
+use Rattle.unlang_code.specs.Progress.{stopped}
 use Rattle.unlang_code.specs.Judgement.{ended_by}
 use Rattle.unlang_code.specs.Run.{Outcome}
 

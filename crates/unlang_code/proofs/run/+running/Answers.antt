@@ -1,22 +1,17 @@
-use Rattle.std.proofs.Common.{rules, ◌≡◌, ◌++◌, true, None, map, IfOk, OnOk, OnErr, ℕ, ◌+◌, ◌-◌, ◌*◌, ◌<◌, ◌≤◌, length, ◌/◌, ◌%◌, Bool, false, nat_eq, nat_lt, List, [], ◌∷◌, slice_index_or, slice_set, bit_and, bit_or, Fits, w8, w32, w64, Bor, MutBor}
+use Rattle.std.proofs.Common.{rules, ◌≡◌, ◌++◌, None, OnErr, ◌+◌, length, List}
 use Rattle.std.specs.List.{AllByRecursion}
-use Rattle.rad_words.specs.declared.sections.Section.TheVariants.{Accounting}
-use Rattle.rad_outside.specs.Moments.{IsInTime}
 use Rattle.mod_base.specs.Reaching.{Reaches, Stops}
 use Rattle.unlang_tree.specs.EachCall.{calls_in, calls_in_kind, calls_of}
-use Rattle.unlang_tree.specs.declared.statement.Group.{out-Group}
-use Rattle.unlang_code.specs.Run.{called, one_child, IsUpdate, kind_done, statement_done, run_of, formed, rotated, balanced_in, group_done, section_done}
-use Rattle.unlang_code.specs.Progressing.{come_to, done_in, ends_as}
-use Rattle.unlang_code.specs.Serving.{IsServed, AreServed}
+use Rattle.unlang_code.specs.Run.{kind_done, run_of, rotated}
+use Rattle.unlang_code.specs.Progressing.{done_in, ends_as}
+use Rattle.unlang_code.specs.Serving.{IsServed}
 use Rattle.unlang_tree.proofs.CallsWithin.{calls_of_group}
 use Rattle.unlang_tree.specs.declared.statement.Call.{Call}
 use Rattle.unlang_code.proofs.Served.{each_at, size_of_block, halves, most_halves}
 use Rattle.unlang_tree.proofs.statement.StatementKind.TheLaws as kind
-use Rattle.unlang_tree.proofs.statement.Group.TheLaws as group
-use Rattle.unlang_tree.specs.declared.statement.StatementKind.TheVariants as kinds
 use denote.Param.Weighed.{at_most, most}
 use Rattle.unlang_tree.proofs.statement.Statement.TheLaws as one
-use Rattle.std.proofs.Common.{arith, suc, refl, take, drop, Option, sym, ap, subst, ◌∙◌}
+use Rattle.std.proofs.Common.{arith, take, drop, sym, ap, subst, ◌∙◌}
 use Rattle.mod_base.proofs.Reached.{reaches_start, reaches_joined, reaches_then, reaches_as}
 use Rattle.unlang_tree.specs.declared.statement.Statement.{Statement}
 use Rattle.unlang_code.specs.declared.progress.Ended.{Ended}
