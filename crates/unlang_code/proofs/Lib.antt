@@ -1,9 +1,13 @@
 pub mod Judging
 pub mod Judged
+pub mod Pieces
+pub mod Trees
+pub mod Leaving
 pub mod Running
-pub mod Looping
+pub mod Stepping
+pub mod Served
+pub mod Balancing
+pub mod Sectioning
 pub mod Finding
-pub mod FrameLaws
 pub mod Keeping
-pub mod Lines
-pub mod OtherLists
+pub mod FrameLaws
