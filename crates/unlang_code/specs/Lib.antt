@@ -6,3 +6,4 @@ pub mod Progressing
 pub mod Serving
 pub mod Frames
 pub mod Leaves
+pub mod Operators
