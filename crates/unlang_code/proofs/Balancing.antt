@@ -55,7 +55,7 @@ abbrev pub ordered : {X : Type 0} → GroupKind → ℕ → List X → List X
 ordered Plain n members = alone n members
 ordered Redundant n members = rotated n members
 
-ordered_mapped : {X Y : Type 0} (f : X → Y) (kind : GroupKind) (n : ℕ) (members : List X) → map f (ordered kind n members) ≡ ordered kind n (map f members)
+pub ordered_mapped : {X Y : Type 0} (f : X → Y) (kind : GroupKind) (n : ℕ) (members : List X) → map f (ordered kind n members) ≡ ordered kind n (map f members)
 ordered_mapped f Plain n members = sym (take-map f 1 (drop n members)) ∙ ap (take 1) (sym (drop-map f n members))
 ordered_mapped f Redundant n members =
     map-append f (drop n members) (take n members)

@@ -8,6 +8,7 @@ pub mod Stepping
 pub mod Served
 pub mod Balancing
 pub mod Sectioning
+pub mod OperatorLaws
 pub mod Finding
 pub mod Keeping
 pub mod FrameLaws

@@ -7,3 +7,4 @@ pub mod Progressing
 pub mod Serving
 pub mod Frames
 pub mod Leaves
+pub mod Operators

@@ -30,7 +30,6 @@ use Rattle.unlang_code.specs.Run.{picked_of}
 use Rattle.unlang_code.proofs.run.+running.Goals.{run_balanced-in-Plain+in_ok-so_far-in-Plain, run_balanced-in-Redundant+in_ok-so_far-in-Redundant}
 use Rattle.unlang_code.proofs.run.+running.Goals as goal
 
--- src/run.rt:184:18
 pub run_around-run_members-requires : goal.run_around-run_members-requires
 run_around-run_members-requires g t c κs within =
     let parts = halves (IsServed g.M.Module.meaning c.args.stack.now c.args.section) c.args.place c.args.statements.now c.requires.served in
@@ -38,7 +37,6 @@ run_around-run_members-requires g t c κs within =
     let from : most one.the_size c.split_at.result.1.now ≡ most one.the_size (drop c.args.place c.args.statements.now) = ap (most one.the_size) c.split_at.ensures.back in
     (omega (arith, c.decreases, shorter.1, from), (search rules, (search rules, (search rules, (subst (λ statements. AllByRecursion (IsServed g.M.Module.meaning c.args.stack.now c.args.section) (calls_of statements)) (sym c.split_at.ensures.back) parts.1, (c.requires.in_time, c.requires.changes))))))
 
--- src/run.rt:203:37
 pub run_around-run_members-requires-in-Going : goal.run_around-run_members-requires-in-Going
 run_around-run_members-requires-in-Going g t c κs within =
     let parts = halves (IsServed g.M.Module.meaning c.args.stack.now c.args.section) c.args.place c.args.statements.now c.requires.served in
@@ -46,7 +44,6 @@ run_around-run_members-requires-in-Going g t c κs within =
     let before : most one.the_size c.split_at.result.0.now ≡ most one.the_size (take c.args.place c.args.statements.now) = ap (most one.the_size) c.split_at.ensures.front in
     (omega (arith, c.decreases, shorter.0, before), (search rules, (search rules, (search rules, (subst (λ statements. AllByRecursion (IsServed g.M.Module.meaning c.args.stack.now c.args.section) (calls_of statements)) (sym c.split_at.ensures.front) parts.0, (c.in_ok-so_far.ensures.in_time, search rules))))))
 
--- src/run.rt:184:18
 pub run_around-returns-in_err-so_far-clause-memory :
     goal.run_around-returns-in_err-so_far-clause-memory
 run_around-returns-in_err-so_far-clause-memory g t c =
@@ -57,7 +54,6 @@ run_around-returns-in_err-so_far-clause-memory g t c =
     let Stopped : List Statement → Type 0 = λ (run : List Statement). Stops c.args.scope.now (g.W.World.state c.args.world.now) (λ s. (run_of g.M.Module.meaning c.args.stack.now c.args.dict.now c.args.section c.args.kind run s).situation.effects) (g.W.World.state c.run_members.new.world) in
     on_err c.from_residual.result (subst Stopped round (first_stops g.M.Module.meaning c.args.stack.now c.args.dict.now c.args.section c.args.kind None from before c.args.scope.now c.run_members.new.scope (g.W.World.state c.args.world.now) (g.W.World.state c.run_members.new.world) g.met.M.Module.lawful c.in_err-so_far.ensures.memory))
 
--- src/run.rt:164:1
 pub run_around-returns-in-Going-clause-ok : goal.run_around-returns-in-Going-clause-ok
 run_around-returns-in-Going-clause-ok g t c =
     let all = c.args.statements.now in
@@ -71,7 +67,6 @@ run_around-returns-in-Going-clause-ok g t c =
     (reaches_joined c.args.scope.now c.run_members.new.scope c.run_members-in-Going.new.scope (g.W.World.state c.args.world.now) (g.W.World.state c.run_members.new.world) (g.W.World.state c.run_members-in-Going.new.world) (left g.M.Module.meaning c.args.stack.now c.args.dict.now c.args.section c.args.kind None (from ++ before)) (left g.M.Module.meaning c.args.stack.now c.args.dict.now c.args.section c.args.kind c.in-Going.leading before) (λ s. (s, value)) (first_done g.M.Module.meaning c.args.stack.now c.args.dict.now c.args.section c.args.kind None from before c.args.scope.now c.run_members.new.scope (g.W.World.state c.args.world.now) (g.W.World.state c.run_members.new.world) (Going c.in-Going.leading) first) reached))
     c.run_members-in-Going.ensures.ok
 
--- src/run.rt:164:1
 pub run_around-returns-in-Going-clause-memory : goal.run_around-returns-in-Going-clause-memory
 run_around-returns-in-Going-clause-memory g t c =
     let all = c.args.statements.now in
@@ -83,7 +78,6 @@ run_around-returns-in-Going-clause-memory g t c =
     let first = subst First c.in-Going.is c.in_ok-so_far.ensures.ok in
     if_err c.run_members-in-Going.result (λ stopped. subst Stopped round (others_stop g.M.Module.meaning c.args.stack.now c.args.dict.now c.args.section c.args.kind None from before c.args.scope.now c.run_members.new.scope (g.W.World.state c.args.world.now) (g.W.World.state c.run_members.new.world) (g.W.World.state c.run_members-in-Going.new.world) c.in-Going.leading first stopped)) c.run_members-in-Going.ensures.memory
 
--- src/run.rt:164:1
 pub run_around-returns-in-Over-clause-ok : goal.run_around-returns-in-Over-clause-ok
 run_around-returns-in-Over-clause-ok g t c =
     let all = c.args.statements.now in
@@ -94,11 +88,9 @@ run_around-returns-in-Over-clause-ok g t c =
     let first = subst First c.in-Over.is c.in_ok-so_far.ensures.ok in
     subst (λ (run : List Statement). Reaches c.args.scope.now (g.W.World.state c.args.world.now) (left g.M.Module.meaning c.args.stack.now c.args.dict.now c.args.section c.args.kind None run) c.run_members.new.scope (g.W.World.state c.run_members.new.world) (λ s. (s, Over c.in-Over.ended))) round (first_done g.M.Module.meaning c.args.stack.now c.args.dict.now c.args.section c.args.kind None from before c.args.scope.now c.run_members.new.scope (g.W.World.state c.args.world.now) (g.W.World.state c.run_members.new.world) (Over c.in-Over.ended) first)
 
--- src/run.rt:216:9
 pub run_balanced-returns-in_default-clause-ok : goal.run_balanced-returns-in_default-clause-ok
 run_balanced-returns-in_default-clause-ok g t c = none_done g.M.Module.meaning c.args.stack.now c.args.dict.now c.args.section c.args.kind c.args.statements.now c.args.scope.now c.args.scope.now (g.W.World.state c.args.world.now) (g.W.World.state c.args.world.now) c.end_of.result (sym c.in_default.is ∙ c.picked.ensures) c.end_of.ensures
 
--- src/run.rt:222:13
 pub run_balanced-run_members-requires : goal.run_balanced-run_members-requires
 run_balanced-run_members-requires g t c κs within =
     let all = c.args.statements.now in
@@ -111,7 +103,6 @@ run_balanced-run_members-requires g t c κs within =
     let size : most one.the_size c.split_at-in-Plain.result.0.now ≡ most one.the_size (take 1 (drop place all)) = ap (most one.the_size) one_is in
     (omega (arith, c.decreases, shorter.1, shortest.0, size), (search rules, (search rules, (search rules, (subst (λ statements. AllByRecursion (IsServed g.M.Module.meaning c.args.stack.now c.args.section) (calls_of statements)) (sym one_is) first.0, (c.requires.in_time, c.requires.changes))))))
 
--- src/run.rt:222:13
 pub run_balanced-returns-in_err-so_far-in-Plain-clause-memory :
     goal.run_balanced-returns-in_err-so_far-in-Plain-clause-memory
 run_balanced-returns-in_err-so_far-in-Plain-clause-memory g t c =
@@ -122,11 +113,9 @@ run_balanced-returns-in_err-so_far-in-Plain-clause-memory g t c =
     let Stopped : List Statement → Type 0 = λ (run : List Statement). Stops c.args.scope.now (g.W.World.state c.args.world.now) (λ s. (run_of g.M.Module.meaning c.args.stack.now c.args.dict.now c.args.section c.args.kind run s).situation.effects) (g.W.World.state c.run_members.new.world) in
     on_err c.from_residual.result (balanced_stops g.M.Module.meaning c.args.stack.now c.args.dict.now c.args.section c.args.kind all c.args.scope.now c.args.scope.now (g.W.World.state c.args.world.now) (g.W.World.state c.run_members.new.world) place is (subst Stopped (sym runs) c.in_err-so_far-in-Plain.ensures.memory))
 
--- src/run.rt:226:33
 pub run_balanced-run_around-requires : goal.run_balanced-run_around-requires
 run_balanced-run_around-requires g t c κs within = (omega (arith, c.decreases), (search rules, (search rules, (search rules, (picked_within c.args.scope.now (length c.args.statements.now) c.in-Some.place (sym c.in-Some.is ∙ c.picked.ensures), (c.requires.served, (c.requires.in_time, c.requires.changes)))))))
 
--- src/run.rt:226:33
 pub run_balanced-returns-in_err-so_far-in-Redundant-clause-memory :
     goal.run_balanced-returns-in_err-so_far-in-Redundant-clause-memory
 run_balanced-returns-in_err-so_far-in-Redundant-clause-memory g t c =
@@ -137,7 +126,6 @@ run_balanced-returns-in_err-so_far-in-Redundant-clause-memory g t c =
     let Stopped : List Statement → Type 0 = λ (run : List Statement). Stops c.args.scope.now (g.W.World.state c.args.world.now) (λ s. (run_of g.M.Module.meaning c.args.stack.now c.args.dict.now c.args.section c.args.kind run s).situation.effects) (g.W.World.state c.run_around.new.world) in
     on_err c.from_residual-in_err-so_far-in-Redundant.result (balanced_stops g.M.Module.meaning c.args.stack.now c.args.dict.now c.args.section c.args.kind all c.args.scope.now c.args.scope.now (g.W.World.state c.args.world.now) (g.W.World.state c.run_around.new.world) place is (subst Stopped (sym runs) c.in_err-so_far-in-Redundant.ensures.memory))
 
--- src/run.rt:196:1
 pub run_balanced-returns-clause-ok : goal.run_balanced-returns-clause-ok
 run_balanced-returns-clause-ok g t c =
     let all = c.args.statements.now in
@@ -156,32 +144,26 @@ run_balanced-returns-clause-ok g t c =
     ])
     c.end_of-2.ensures
 
--- src/run.rt:261:1
 pub run_formed-returns-in-Group-clause-memory : goal.run_formed-returns-in-Group-clause-memory
 run_formed-returns-in-Group-clause-memory g t c = rw c.in-Group.is c.run_in_order.ensures.memory
 
--- src/run.rt:261:1
 pub run_formed-returns-in-Redundant-clause-memory :
     goal.run_formed-returns-in-Redundant-clause-memory
 run_formed-returns-in-Redundant-clause-memory g t c = rw c.in-Redundant.is c.run_in_order-in-Redundant.ensures.memory
 
--- src/run.rt:261:1
 pub run_formed-returns-in-LoadBalance-clause-memory :
     goal.run_formed-returns-in-LoadBalance-clause-memory
 run_formed-returns-in-LoadBalance-clause-memory g t c = rw c.in-LoadBalance.is c.run_balanced.ensures.memory
 
--- src/run.rt:261:1
 pub run_formed-returns-in-RedundantLoadBalance-clause-memory :
     goal.run_formed-returns-in-RedundantLoadBalance-clause-memory
 run_formed-returns-in-RedundantLoadBalance-clause-memory g t c = rw c.in-RedundantLoadBalance.is c.run_balanced-in-RedundantLoadBalance.ensures.memory
 
--- src/run.rt:316:17
 pub run_group-returns-in_err-ended-clause-memory :
     goal.run_group-returns-in_err-ended-clause-memory
 run_group-returns-in_err-ended-clause-memory g t c =
     rw (← c.as_slice.ensures) (on_err c.from_residual.result c.in_err-ended.ensures.memory)
 
--- src/run.rt:235:1
 pub run_in_order-returns-clause-ok : goal.run_in_order-returns-clause-ok
 run_in_order-returns-clause-ok g t c =
     reaches_as c.args.scope.now c.run_members.new.scope (g.W.World.state c.args.world.now) (g.W.World.state c.run_members.new.world)
@@ -189,54 +171,45 @@ run_in_order-returns-clause-ok g t c =
     (λ s. ends_is (run_of g.M.Module.meaning c.args.stack.now c.args.dict.now c.args.section c.args.kind c.args.statements.now s)) (λ s. ap (λ (e : Ended). (s, e)) (sym c.end_of.ensures))
     (reaches_then c.args.scope.now c.run_members.new.scope (g.W.World.state c.args.world.now) (g.W.World.state c.run_members.new.world) (left g.M.Module.meaning c.args.stack.now c.args.dict.now c.args.section c.args.kind None c.args.statements.now) (λ s. (s, c.in_ok-so_far.so_far)) finished c.in_ok-so_far.ensures.ok)
 
--- src/run.rt:89:40
 pub run_kind-run_group-requires : goal.run_kind-run_group-requires
 run_kind-run_group-requires g t c κs within = (omega (arith, c.decreases, ap kind.the_size c.in-Group.is, size_of_block c.in-Group.group), (search rules, (search rules, (search rules, (subst (AllByRecursion (IsServed g.M.Module.meaning c.args.stack.now c.args.section)) (ap calls_in_kind c.in-Group.is ∙ calls_of_group c.in-Group.group) c.requires.served, (c.requires.in_time, c.requires.changes))))))
 
--- src/run.rt:94:25
 pub run_kind-returns-in_err-child-in-Update-clause-memory :
     goal.run_kind-returns-in_err-child-in-Update-clause-memory
 run_kind-returns-in_err-child-in-Update-clause-memory g t c =
     let Stopped : Piece → Type 0 = λ (p : Piece). OnErr c.from_residual.result (Stops c.args.scope.now (g.W.World.state c.args.world.now) (λ s. (p c.args.kind s).situation.effects) (g.W.World.state c.args.world.now)) in
     subst Stopped (sym (ap (kind_done g.M.Module.meaning c.args.stack.now c.args.dict.now c.args.section) c.in-Update.is ∙ by_update g.M.Module.meaning c.args.stack.now c.args.dict.now c.args.section c.in-Update.edit)) (on_err c.from_residual.result (update_stops c.args.section c.args.kind c.in-Update.edit c.args.scope.now (g.W.World.state c.args.world.now)))
 
--- src/run.rt:66:1
 pub run_kind-returns-in-Call-clause-memory : goal.run_kind-returns-in-Call-clause-memory
 run_kind-returns-in-Call-clause-memory g t c =
     let Stopped : Piece → Type 0 = λ (p : Piece). OnErr c.call.result (Stops c.args.scope.now (g.W.World.state c.args.world.now) (λ s. (p c.args.kind s).situation.effects) (g.W.World.state c.call.new.world)) in
     subst Stopped (sym (ap (kind_done g.M.Module.meaning c.args.stack.now c.args.dict.now c.args.section) c.in-Call.is ∙ by_call g.M.Module.meaning c.args.stack.now c.args.dict.now c.args.section c.in-Call.called)) c.call.ensures.memory
 
--- src/run.rt:66:1
 pub run_kind-returns-in-Group-clause-memory : goal.run_kind-returns-in-Group-clause-memory
 run_kind-returns-in-Group-clause-memory g t c =
     let Stopped : Piece → Type 0 = λ (p : Piece). OnErr c.run_group.result (Stops c.args.scope.now (g.W.World.state c.args.world.now) (λ s. (p c.args.kind s).situation.effects) (g.W.World.state c.run_group.new.world)) in
     subst Stopped (sym (ap (kind_done g.M.Module.meaning c.args.stack.now c.args.dict.now c.args.section) c.in-Group.is ∙ by_group g.M.Module.meaning c.args.stack.now c.args.dict.now c.args.section c.in-Group.group)) c.run_group.ensures.memory
 
--- src/run.rt:66:1
 pub run_kind-returns-in-Return-clause-ok : goal.run_kind-returns-in-Return-clause-ok
 run_kind-returns-in-Return-clause-ok g t c =
     let Reached : Piece → Type 0 = λ (p : Piece). Reaches c.args.scope.now (g.W.World.state c.args.world.now) (p c.args.kind) c.args.scope.now (g.W.World.state c.args.world.now) (done_in c.returned.result) in
     subst Reached (sym (ap (kind_done g.M.Module.meaning c.args.stack.now c.args.dict.now c.args.section) c.in-Return.is ∙ by_return g.M.Module.meaning c.args.stack.now c.args.dict.now c.args.section)) (rw c.returned.ensures (reaches_start c.args.scope.now (g.W.World.state c.args.world.now) returned))
 
--- src/run.rt:66:1
 pub run_kind-returns-in_ok-child-in-Update-clause-ok :
     goal.run_kind-returns-in_ok-child-in-Update-clause-ok
 run_kind-returns-in_ok-child-in-Update-clause-ok g t c =
     let Reached : Piece → Type 0 = λ (p : Piece). Reaches c.args.scope.now (g.W.World.state c.args.world.now) (p c.args.kind) c.update.new.scope (g.W.World.state c.args.world.now) (done_in c.of_child.result) in
     subst Reached (sym (ap (kind_done g.M.Module.meaning c.args.stack.now c.args.dict.now c.args.section) c.in-Update.is ∙ by_update g.M.Module.meaning c.args.stack.now c.args.dict.now c.args.section c.in-Update.edit)) (rw c.of_child.ensures (update_reaches c.args.section c.args.kind c.in-Update.edit c.args.scope.now c.update.new.scope (g.W.World.state c.args.world.now) c.in_ok-child-in-Update.child c.in_ok-child-in-Update.ensures))
 
--- src/run.rt:151:5
 pub run_members-loop-statement-init : goal.run_members-loop-statement-init
 run_members-loop-statement-init g t c =
     record { reached = reaches_start c.args.scope.now (g.W.World.state c.args.world.now) (left g.M.Module.meaning c.args.stack.now c.args.dict.now c.args.section c.args.kind c.args.leading c.args.statements.now); in_time = c.requires.in_time }
 
--- src/run.rt:152:20
 pub run_members-run_statement-requires : goal.run_members-run_statement-requires
 run_members-run_statement-requires g t c κs within =
     let P : Call → Type 0 = IsServed g.M.Module.meaning c.args.stack.now c.args.section in
     (omega (arith, c.decreases, ap one.the_size c.statement-item.is, at_most one.the_size c.args.statements.now c.loop-statement.statement-index c.statement-item.result c.loop-statement-test.true), (search rules, (search rules, (search rules, (subst (λ x. AllByRecursion P (calls_in x)) (sym c.statement-item.is) (each_at P c.args.statements.now c.loop-statement.statement-index c.statement-item.result c.loop-statement-test.true c.requires.served), (c.loop-statement.invariant.in_time, search rules))))))
 
--- src/run.rt:152:20
 pub run_members-returns-in_err-done-clause-memory :
     goal.run_members-returns-in_err-done-clause-memory
 run_members-returns-in_err-done-clause-memory g t c =
@@ -247,7 +220,6 @@ run_members-returns-in_err-done-clause-memory g t c =
     let so_far = subst Reached (from_here all loop.statement-index statement c.loop-statement-test.true c.statement-item.is) loop.invariant.reached in
     on_err c.from_residual.result (stops_here g.M.Module.meaning c.args.stack.now c.args.dict.now c.args.section c.args.kind c.args.leading all c.args.scope.now (g.W.World.state c.args.world.now) loop.leading statement (drop (loop.statement-index + 1) all) loop.scope c.run_statement.new.scope (g.W.World.state loop.world) (g.W.World.state c.run_statement.new.world) so_far g.met.M.Module.lawful c.in_err-done.ensures.memory)
 
--- src/run.rt:157:38
 pub run_members-returns-in-Over-clause-ok : goal.run_members-returns-in-Over-clause-ok
 run_members-returns-in-Over-clause-ok g t c =
     let loop = c.loop-statement in
@@ -257,7 +229,6 @@ run_members-returns-in-Over-clause-ok g t c =
     let so_far = subst Reached (from_here all loop.statement-index statement c.loop-statement-test.true c.statement-item.is) loop.invariant.reached in
     ends_here g.M.Module.meaning c.args.stack.now c.args.dict.now c.args.section c.args.kind c.args.leading all c.args.scope.now (g.W.World.state c.args.world.now) loop.leading statement (drop (loop.statement-index + 1) all) loop.scope c.run_statement.new.scope (g.W.World.state loop.world) (g.W.World.state c.run_statement.new.world) so_far c.in_ok-done.done c.in-Over.ended c.in_ok-done.ensures.ok (sym c.absorbed.ensures ∙ c.in-Over.is)
 
--- src/run.rt:151:5
 pub run_members-loop-statement-preserved : goal.run_members-loop-statement-preserved
 run_members-loop-statement-preserved g t c =
     let loop = c.loop-statement in
@@ -267,28 +238,23 @@ run_members-loop-statement-preserved g t c =
     let so_far = subst Reached (from_here all loop.statement-index statement c.loop-statement-test.true c.statement-item.is) loop.invariant.reached in
     record { reached = goes_on_here g.M.Module.meaning c.args.stack.now c.args.dict.now c.args.section c.args.kind c.args.leading all c.args.scope.now (g.W.World.state c.args.world.now) loop.leading statement (drop (loop.statement-index + 1) all) loop.scope c.run_statement.new.scope (g.W.World.state loop.world) (g.W.World.state c.run_statement.new.world) so_far c.in_ok-done.done c.in-Going.heaviest c.in_ok-done.ensures.ok (sym c.absorbed.ensures ∙ c.in-Going.is); in_time = c.in_ok-done.ensures.in_time }
 
--- src/run.rt:130:1
 pub run_members-returns-clause-ok : goal.run_members-returns-clause-ok
 run_members-returns-clause-ok g t c = ends_behind g.M.Module.meaning c.args.stack.now c.args.dict.now c.args.section c.args.kind c.args.leading c.args.statements.now c.loop-statement.statement-index c.args.scope.now c.loop-statement.scope (g.W.World.state c.args.world.now) (g.W.World.state c.loop-statement.world) c.loop-statement.leading (omega (arith, c.loop-statement-test.false)) c.loop-statement.invariant.reached
 
--- src/run.rt:130:1
 pub run_members-returns-clause-in_time : goal.run_members-returns-clause-in_time
 run_members-returns-clause-in_time g t c = c.loop-statement.invariant.in_time
 
--- src/run.rt:120:16
 pub run_statement-returns-in_err-done-clause-memory :
     goal.run_statement-returns-in_err-done-clause-memory
 run_statement-returns-in_err-done-clause-memory g t c =
     let Stopped : Piece → Type 0 = λ (p : Piece). OnErr c.from_residual.result (Stops c.args.scope.now (g.W.World.state c.args.world.now) (λ s. (p c.args.kind s).situation.effects) (g.W.World.state c.run_kind.new.world)) in
     subst Stopped (sym (by_kind g.M.Module.meaning c.args.stack.now c.args.dict.now c.args.section c.args.statement.now)) (on_err c.from_residual.result c.in_err-done.ensures.memory)
 
--- src/run.rt:101:1
 pub run_statement-returns-in-Some-clause-ok : goal.run_statement-returns-in-Some-clause-ok
 run_statement-returns-in-Some-clause-ok g t c =
     let Reached : Piece → Type 0 = λ (p : Piece). Reaches c.args.scope.now (g.W.World.state c.args.world.now) (p c.args.kind) c.run_kind.new.scope (g.W.World.state c.run_kind.new.world) (done_in c.in_ok-done.done) in
     subst Reached (sym (by_kind g.M.Module.meaning c.args.stack.now c.args.dict.now c.args.section c.args.statement.now)) c.in_ok-done.ensures.ok
 
--- src/run.rt:101:1
 pub run_statement-returns-in_default-clause-ok : goal.run_statement-returns-in_default-clause-ok
 run_statement-returns-in_default-clause-ok g t c =
     let Reached : Piece → Type 0 = λ (p : Piece). Reaches c.args.scope.now (g.W.World.state c.args.world.now) (p c.args.kind) c.run_kind.new.scope (g.W.World.state c.run_kind.new.world) (done_in c.in_ok-done.done) in

@@ -6,7 +6,6 @@ use Rattle.unlang_code.specs.Judgement.{default_code}
 use Rattle.unlang_code.proofs.Sectioning.{section_reaches}
 use Rattle.unlang_code.proofs.run.run_section.Goals as goal
 
--- src/run.rt:378:1
 pub returns-in-Some-clause-ok : goal.returns-in-Some-clause-ok
 returns-in-Some-clause-ok g c =
     let coded : Option Code → Code = λ (o : Option Code). unwrap_or o (default_code c.args.section) in
@@ -14,7 +13,6 @@ returns-in-Some-clause-ok g c =
     c.in_ok-so_far.ensures.ok
     (sym (ap coded (ap (λ (e : Ended). e.code) (sym c.end_of.ensures) ∙ c.in-Some.is)))
 
--- src/run.rt:378:1
 pub returns-in-None-clause-ok : goal.returns-in-None-clause-ok
 returns-in-None-clause-ok g c =
     let coded : Option Code → Code = λ (o : Option Code). unwrap_or o (default_code c.args.section) in
