@@ -20,8 +20,14 @@ use Rattle.mod_base.specs.Situation.{Situation}
 use Rattle.mod_base.specs.Meaning.{Meaning, IsLawful}
 use Rattle.mod_base.proofs.Frames.{filter_within, values_stay}
 use Rattle.unlang_tree.specs.declared.statement.Statement.{Statement}
-use Rattle.unlang_code.specs.Run.{updated_to, section_done, begun, in_scope}
-use Rattle.unlang_code.specs.Frames.{same_list, module_edits, leaf_edits, edits_of}
+use Rattle.rad_value.specs.declared.values.Value.{Value}
+use Rattle.rad_value.specs.declared.scope.Scope.{Scope}
+use Rattle.unlang_tree.specs.declared.update.Line.{Line}
+use Rattle.unlang_code.specs.declared.update.Said.{Said}
+use Rattle.unlang_code.specs.declared.update.Said.TheVariants as said
+use Rattle.unlang_code.specs.Updates.{said_by, edit_of, tried_to, done_with}
+use Rattle.unlang_code.specs.Run.{section_done, begun, in_scope}
+use Rattle.unlang_code.specs.Frames.{same_list, module_edits, line_edits, leaf_edits, edits_of}
 use Rattle.unlang_code.specs.Leaves.{Leaf, Calls, Edits, module_done, leaf_done, leaves_of}
 use Rattle.unlang_code.proofs.Leaving.{IsLasting, LeafLeads, run_leads}
 
@@ -63,17 +69,23 @@ which_lists : (t : Bool) (done lists : PairLists) → cond t None (Some done) �
 which_lists true done lists is = absurd (cc)
 which_lists false done lists is = cc
 
-tried_lists : (before : PairLists) (edit : Edit) (lists : PairLists) → tried before edit ≡ Some lists → lists ≡ lists_edited before edit
+pub tried_lists : (before : PairLists) (edit : Edit) (lists : PairLists) → tried before edit ≡ Some lists → lists ≡ lists_edited before edit
 unfolding tried
 tried_lists before edit lists is = which_lists (is_full edit.op edit.attr (list_of before edit.list)) (lists_edited before edit) lists is
 
-update_leaves : (section : Section) (edit : Edit) (s : Situation) (list : ListName) (attr : AttrId) (lists : Option PairLists) → tried s.scope.lists edit ≡ lists → (same_list edit.list list && same_attr attr edit.attr) ≡ false
-    → values_of attr (list_of (updated_to section Plain lists s).situation.scope.lists list) ≡ values_of attr (list_of s.scope.lists list)
-update_leaves section edit s list attr None is free = refl
-update_leaves section edit s list attr (Some lists) is free =
-    ap (λ (l : PairLists). values_of attr (list_of l list)) (tried_lists s.scope.lists edit lists is) ∙ edited_lists_leave s.scope.lists list attr edit free
+tried_leaves : (line : Line) (v : Value) (scope : Scope) (list : ListName) (attr : AttrId) (lists : Option PairLists) → tried scope.lists (edit_of line v) ≡ lists → line_edits list attr line ≡ false
+    → values_of attr (list_of (tried_to lists scope).0.lists list) ≡ values_of attr (list_of scope.lists list)
+tried_leaves line v scope list attr None is free = refl
+tried_leaves line v scope list attr (Some lists) is free =
+    ap (λ (l : PairLists). values_of attr (list_of l list)) (tried_lists scope.lists (edit_of line v) lists is) ∙ edited_lists_leave scope.lists list attr (edit_of line v) free
 
-none_of : (a b : Bool) → (a || b) ≡ false → (a ≡ false) × (b ≡ false)
+said_leaves : (line : Line) (s : Said) (scope : Scope) (list : ListName) (attr : AttrId) → line_edits list attr line ≡ false
+    → values_of attr (list_of (done_with line s scope).0.lists list) ≡ values_of attr (list_of scope.lists list)
+said_leaves line (said.Value v) scope list attr free = tried_leaves line v scope list attr (tried scope.lists (edit_of line v)) refl free
+said_leaves line said.Nothing scope list attr free = refl
+said_leaves line said.Unreadable scope list attr free = refl
+
+pub none_of : (a b : Bool) → (a || b) ≡ false → (a ≡ false) × (b ≡ false)
 none_of false b is = (refl, is)
 none_of true b is = absurd (cc)
 
@@ -96,7 +108,7 @@ module _ {M : Type 0} (meaning : Meaning M) (lawful : (m : M) (dict : Definition
 
   leaf_leaves : (leaf : Leaf) → leaf_edits meaning stack list attr leaf ≡ false → (s : Situation) → Leaves s (leaf_done meaning stack dict section leaf s)
   leaf_leaves (Calls call) free s = module_leaves (slice_get stack call.instance) s free
-  leaf_leaves (Edits edit) free s = update_leaves section edit s list attr (tried s.scope.lists edit) refl free
+  leaf_leaves (Edits line) free s = said_leaves line (said_by dict line.attr line.right s.scope) s.scope list attr free
 
   each_leaves : (leaves : List Leaf) → list_any (leaf_edits meaning stack list attr) leaves ≡ false → AllByRecursion (LeafLeads Leaves lasts meaning stack dict section) leaves
   each_leaves [] free = tt

@@ -7,9 +7,9 @@ use Rattle.rad_words.specs.declared.codes.Code.{Code}
 use Rattle.rad_words.specs.declared.sections.Section.{Section}
 use Rattle.rad_tables.specs.declared.group_kind.GroupKind.{GroupKind}
 use Rattle.rad_tables.specs.declared.group_kind.GroupKind.TheVariants.{Plain, Redundant}
-use Rattle.rad_value.specs.declared.edits.Edit.{Edit}
-use Rattle.rad_value.specs.Edit.{tried}
-use Rattle.rad_value.specs.PairLists.{PairLists}
+use Rattle.rad_value.specs.declared.scope.Scope.{Scope}
+use Rattle.unlang_tree.specs.declared.update.Line.{Line}
+use Rattle.unlang_code.specs.Updates.{line_done, then_rest, lines_done}
 use Rattle.rad_dict.specs.Definitions.{Definitions}
 use Rattle.mod_base.specs.Situation.{Situation}
 use Rattle.mod_base.specs.Meaning.{Meaning}
@@ -24,7 +24,7 @@ use Rattle.unlang_tree.specs.declared.statement.StatementKind.{roll-StatementKin
 use Rattle.unlang_tree.specs.declared.statement.StatementKind.TheOpen.{StatementKind-F, Group-F, Statement-F}
 use Rattle.unlang_tree.specs.declared.statement.StatementKind.TheOpen as level
 use Rattle.unlang_tree.specs.declared.statement.StatementKind.TheFolds.{map-StatementKind, fold_out-Group, fold-roll-StatementKind, fold-roll-Statement, ind-Statement}
-use Rattle.unlang_code.specs.Run.{kind_step, group_step, statement_step, Outcome, Piece, in_scope, with_last, with_choice, updated_to, updated, called_of, called, is_over, and_then, block_of, picked, alone, rotated, balanced_in, formed, group_done, statement_done, kind_done, run_of}
+use Rattle.unlang_code.specs.Run.{kind_step, group_step, statement_step, Outcome, Piece, in_scope, with_last, with_choice, updated, called_of, called, is_over, and_then, block_of, picked, alone, rotated, balanced_in, formed, group_done, statement_done, kind_done, run_of}
 use Rattle.unlang_code.specs.Leaves.{Leaf, Calls, Edits, module_done, leaf_done, leaves_in, leaves_at, leaves_of, kind_leaves, group_leaves, statement_leaves, joined}
 
 -- a relation of a situation to a later one, which stays where a code is noted or a choice is made
@@ -74,10 +74,6 @@ module _ (R : Situation → Situation → Type 0) (lasting : IsLasting R) where
   formed_leads form.LoadBalance pieces all s = balanced_leads Plain pieces all s
   formed_leads form.RedundantLoadBalance pieces all s = balanced_leads Redundant pieces all s
 
-  update_leads : (section : Section) (kind other : GroupKind) (lists : Option PairLists) (s : Situation) → R s (updated_to section other lists s).situation → R s (updated_to section kind lists s).situation
-  update_leads section kind other None s leads = leads
-  update_leads section kind other (Some lists) s leads = leads
-
   module _ {M : Type 0} (meaning : Meaning M) (stack : List M) (dict : Definitions) (section : Section) where
     call_leads : (kind : GroupKind) (overrides : List Override) (m : Option M) (s : Situation) → R s (module_done meaning dict section m s) → R s (called_of meaning dict section kind overrides m s).situation
     call_leads kind overrides None s leads = leads
@@ -90,8 +86,20 @@ module _ (R : Situation → Situation → Type 0) (lasting : IsLasting R) where
     pub called_leads : (call : Call) → LeafLeads (Calls call) → Leads (λ kind. called meaning stack dict section kind call)
     called_leads call leads kind s = call_leads kind call.overrides (slice_get stack call.instance) s (leads s)
 
-    pub edit_leads : (edit : Edit) → LeafLeads (Edits edit) → Leads (λ kind. updated section kind edit)
-    edit_leads edit leads kind s = update_leads section kind Plain (tried s.scope.lists edit) s (leads s)
+    -- lines of an update, one after the other
+    rest_leads_on : (s : Situation) (rest : Scope → Scope × Bool) (b : Bool) (scope : Scope) → R s (in_scope scope s) → (R s (in_scope scope s) → R s (in_scope (rest scope).0 s)) → R s (in_scope (then_rest rest b scope).0 s)
+    rest_leads_on s rest true scope leads more = more leads
+    rest_leads_on s rest false scope leads more = leads
+
+    lines_lead : (lines : List Line) → AllByRecursion LeafLeads (map Edits lines) → (s : Situation) → R s (in_scope (lines_done dict lines s.scope).0 s)
+    lines_lead [] all s = lasting.alike s
+    lines_lead (line ∷ lines) all s =
+        let first = line_done dict line s.scope in
+        rest_leads_on s (lines_done dict lines) first.1 first.0 (all.0 s)
+        (λ leads. lasting.joined s (in_scope first.0 s) (in_scope (lines_done dict lines first.0).0 s) leads (lines_lead lines all.1 (in_scope first.0 s)))
+
+    pub edit_leads : (lines : List Line) → AllByRecursion LeafLeads (map Edits lines) → Leads (λ kind. updated dict section kind lines)
+    edit_leads lines all kind s = lines_lead lines all s
 
     both_parts : {X : Type 0} (P : X → Type 0) (xs ys : List X) → AllByRecursion P (xs ++ ys) → AllByRecursion P xs × AllByRecursion P ys
     both_parts P [] ys all = (tt, all)
@@ -126,8 +134,8 @@ module _ (R : Situation → Situation → Type 0) (lasting : IsLasting R) where
     kind_led (level.Group group) each =
         subst Leads (sym (fold-roll-StatementKind Piece Piece Piece (kind_step meaning stack dict section) (group_step section) statement_step (level.Group group.0) ∙ fold_out-Group Piece Piece Piece (kind_step meaning stack dict section) (group_step section) statement_step group.0)) (group.1 (subst (AllByRecursion LeafLeads) (fold-roll-StatementKind (List Leaf) (List Leaf) (List Leaf) kind_leaves group_leaves statement_leaves (level.Group group.0) ∙ fold_out-Group (List Leaf) (List Leaf) (List Leaf) kind_leaves group_leaves statement_leaves group.0 ∙ joined_is (out-Group group.0).statements) each))
     kind_led level.Return each = subst Leads (sym (fold-roll-StatementKind Piece Piece Piece (kind_step meaning stack dict section) (group_step section) statement_step level.Return)) (λ kind s. lasting.alike s)
-    kind_led (level.Update edit) each =
-        subst Leads (sym (fold-roll-StatementKind Piece Piece Piece (kind_step meaning stack dict section) (group_step section) statement_step (level.Update edit))) (edit_leads edit (subst (AllByRecursion LeafLeads) (fold-roll-StatementKind (List Leaf) (List Leaf) (List Leaf) kind_leaves group_leaves statement_leaves (level.Update edit)) each).0)
+    kind_led (level.Update lines) each =
+        subst Leads (sym (fold-roll-StatementKind Piece Piece Piece (kind_step meaning stack dict section) (group_step section) statement_step (level.Update lines))) (edit_leads lines (subst (AllByRecursion LeafLeads) (fold-roll-StatementKind (List Leaf) (List Leaf) (List Leaf) kind_leaves group_leaves statement_leaves (level.Update lines)) each))
 
     group_led : (x : Group-F StatementKind Group Statement) (y : Group-F ((what : StatementKind) × IsKindLed what) ((group : Group) × IsGroupLed group) ((one : Statement) × IsLed one))
         → map (λ e. e.0) y.statements ≡ x.statements → IsGroupLed (roll-Group x)

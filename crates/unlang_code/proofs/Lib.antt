@@ -12,3 +12,5 @@ pub mod OperatorLaws
 pub mod Finding
 pub mod Keeping
 pub mod FrameLaws
+pub mod Lines
+pub mod OtherLists

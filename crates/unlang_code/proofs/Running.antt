@@ -9,7 +9,7 @@ use Rattle.rad_tables.specs.declared.group_kind.GroupKind.{GroupKind}
 use Rattle.rad_tables.specs.declared.group_kind.GroupKind.TheVariants.{Plain}
 use Rattle.rad_words.specs.declared.sections.Section.{Section}
 use Rattle.rad_value.specs.declared.scope.Scope.{Scope}
-use Rattle.rad_value.specs.declared.edits.Edit.{Edit}
+use Rattle.unlang_tree.specs.declared.update.Line.{Line}
 use Rattle.rad_value.specs.Edit.{tried}
 use Rattle.rad_value.specs.PairLists.{PairLists}
 use Rattle.rad_dict.specs.Definitions.{Definitions}
@@ -24,7 +24,7 @@ use Rattle.unlang_tree.specs.declared.statement.Call.{Call}
 use Rattle.unlang_tree.specs.declared.statement.Statement.{Statement}
 use Rattle.unlang_code.specs.declared.judgement.Child.{Child}
 use Rattle.unlang_code.specs.Judgement.{child_of}
-use Rattle.unlang_code.specs.Run.{with_lists, one_child, updated_to, updated, IsUpdateTo, IsUpdate, called_of, called, run_of}
+use Rattle.unlang_code.specs.Run.{one_child, updated_with, updated, IsUpdate, called_of, called, run_of}
 use Rattle.unlang_code.specs.Leaves.{Leaf, Calls, Edits, module_done, leaf_done, leaves_of}
 use Rattle.unlang_code.proofs.Leaving.{IsLasting, LeafLeads, run_leads}
 
@@ -69,33 +69,15 @@ reaches_moved s0 s1 w meaning left same = record {
   same = λ later earlier. same later earlier ∙ ap (λ (effects : List Effect). left (situation_in s1 w later effects)) (sym (append-nil earlier));
 }
 
-same_child : (before now : Scope) (w : WorldState) (a b : Child) → now ≡ before → b ≡ a → (later : List Bool) (earlier : List Effect) → one_child a (situation_in before w later earlier) ≡ one_child b (situation_in now w later earlier)
-same_child before now w a b is_now is_child later earlier =
-    ap (λ (c : Child). one_child c (situation_in before w later earlier)) (sym is_child) ∙ ap (λ (n : Scope). one_child b (situation_in n w later earlier)) (sym is_now)
-
-updated_by : (section : Section) (kind : GroupKind) (before now : Scope) (w : WorldState) (child : Child) (lists : Option PairLists) → IsUpdateTo section kind lists before now child
-    → (later : List Bool) (earlier : List Effect) → updated_to section kind lists (situation_in before w later earlier) ≡ one_child child (situation_in now w later earlier)
-updated_by section kind before now w child None done later earlier = same_child before now w (child_of section kind [] code.Fail) child done.0 done.1 later earlier
-updated_by section kind before now w child (Some lists) done later earlier = same_child (with_lists lists before) now w (child_of section kind [] code.Noop) child done.0 done.1 later earlier
-
 -- an update is what it means
-pub update_reaches : (section : Section) (kind : GroupKind) (edit : Edit) (before now : Scope) (w : WorldState) (child : Child) → IsUpdate section kind edit before now child → Reaches before w (updated section kind edit) now w (one_child child)
-update_reaches section kind edit before now w child done =
-    reaches_moved before now w (updated section kind edit) (one_child child) (updated_by section kind before now w child (tried before.lists edit) done)
+pub update_reaches : (dict : Definitions) (section : Section) (kind : GroupKind) (lines : List Line) (before now : Scope) (w : WorldState) (child : Child) → IsUpdate dict section kind lines before now child
+    → Reaches before w (updated dict section kind lines) now w (one_child child)
+update_reaches dict section kind lines before now w child done =
+    reaches_moved before now w (updated dict section kind lines) (one_child child)
+    (λ later earlier. ap (λ (d : Scope × Bool). updated_with section kind d (situation_in before w later earlier)) done.1 ∙ ap (λ (c : Child). one_child c (situation_in now w later earlier)) (sym done.2))
 
-update_grows_by : (section : Section) (kind : GroupKind) (s : Situation) (lists : Option PairLists) → Grows s (updated_to section kind lists s).situation
-update_grows_by section kind s None = grows_alone s
-update_grows_by section kind s (Some lists) = grows_alone s
-
-pub update_stops : (section : Section) (kind : GroupKind) (edit : Edit) (before : Scope) (w : WorldState) → Stops before w (λ s. (updated section kind edit s).situation.effects) w
-update_stops section kind edit before w = stops_start before w (λ s. (updated section kind edit s).situation.effects) (λ s. update_grows_by section kind s (tried s.scope.lists edit))
-
-updated_in_time_by : (section : Section) (kind : GroupKind) (before now : Scope) (child : Child) (lists : Option PairLists) → IsUpdateTo section kind lists before now child → now.moment ≡ before.moment
-updated_in_time_by section kind before now child None done = ap (λ (s : Scope). s.moment) done.0
-updated_in_time_by section kind before now child (Some lists) done = ap (λ (s : Scope). s.moment) done.0
-
-pub update_keeps_time : (section : Section) (kind : GroupKind) (edit : Edit) (before now : Scope) (child : Child) → IsUpdate section kind edit before now child → now.moment ≡ before.moment
-update_keeps_time section kind edit before now child done = updated_in_time_by section kind before now child (tried before.lists edit) done
+pub update_stops : (dict : Definitions) (section : Section) (kind : GroupKind) (lines : List Line) (before : Scope) (w : WorldState) → Stops before w (λ s. (updated dict section kind lines s).situation.effects) w
+update_stops dict section kind lines before w = stops_start before w (λ s. (updated dict section kind lines s).situation.effects) (λ s. grows_alone s)
 
 module _ {M : Type 0} (meaning : Meaning M) (lawful : (m : M) (dict : Definitions) (method : Section) (s : Situation) → IsLawful (meaning.edits m) method s (meaning.does m dict method s).0) where
   -- a module's call keeps the moment
@@ -110,7 +92,7 @@ module _ {M : Type 0} (meaning : Meaning M) (lawful : (m : M) (dict : Definition
 
   leaf_grows : (stack : List M) (dict : Definitions) (section : Section) (leaf : Leaf) (s : Situation) → Grows s (leaf_done meaning stack dict section leaf s)
   leaf_grows stack dict section (Calls call) s = module_grows dict section (slice_get stack call.instance) s
-  leaf_grows stack dict section (Edits edit) s = update_grows_by section Plain s (tried s.scope.lists edit)
+  leaf_grows stack dict section (Edits line) s = grows_alone s
 
   leaves_grow : (stack : List M) (dict : Definitions) (section : Section) (leaves : List Leaf) → AllByRecursion (LeafLeads Grows lasts meaning stack dict section) leaves
   leaves_grow stack dict section [] = tt

@@ -1,7 +1,7 @@
 -- What statements mean, by what they are: a fact of each statement alone that blocks hand on.
 use Rattle.std.proofs.Common.{◌≡◌, List, sym, ap, ◌∙◌}
 use Rattle.rad_words.specs.declared.sections.Section.{Section}
-use Rattle.rad_value.specs.declared.edits.Edit.{Edit}
+use Rattle.unlang_tree.specs.declared.update.Line.{Line}
 use Rattle.rad_dict.specs.Definitions.{Definitions}
 use Rattle.mod_base.specs.Meaning.{Meaning}
 use Rattle.unlang_tree.specs.declared.statement.Call.{Call}
@@ -29,10 +29,10 @@ module _ {M : Type 0} (meaning : Meaning M) (stack : List M) (dict : Definitions
       ap (kind_done meaning stack dict section) (sym rolls-Return)
       ∙ fold-roll-StatementKind Piece Piece Piece (kind_step meaning stack dict section) (group_step section) statement_step level.Return
 
-  pub by_update : (edit : Edit) → kind_done meaning stack dict section (kinds.Update edit) ≡ λ kind. updated section kind edit
-  by_update edit =
-      ap (kind_done meaning stack dict section) (sym (rolls-Update edit))
-      ∙ fold-roll-StatementKind Piece Piece Piece (kind_step meaning stack dict section) (group_step section) statement_step (level.Update edit)
+  pub by_update : (lines : List Line) → kind_done meaning stack dict section (kinds.Update lines) ≡ λ kind. updated dict section kind lines
+  by_update lines =
+      ap (kind_done meaning stack dict section) (sym (rolls-Update lines))
+      ∙ fold-roll-StatementKind Piece Piece Piece (kind_step meaning stack dict section) (group_step section) statement_step (level.Update lines)
 
   pub by_group : (group : Group) → kind_done meaning stack dict section (kinds.Group group) ≡ group_done meaning stack dict section group
   by_group group =

@@ -6,6 +6,7 @@ ghost use Rattle.std.specs.List.{list_any, AllByRecursion};
 ghost use Rattle.rad_words.specs.declared.codes.Code.{Code};
 ghost use Rattle.rad_words.specs.declared.codes.Code.TheVariants as code;
 ghost use Rattle.rad_words.specs.declared.sections.Section.{Section};
+ghost use Rattle.rad_tables.specs.declared.group_kind.GroupKind.{GroupKind};
 ghost use Rattle.rad_words.specs.declared.attributes.AttrId.{AttrId};
 ghost use Rattle.rad_value.specs.declared.edits.ListName.{ListName};
 ghost use Rattle.rad_value.specs.PairLists.{PairLists, list_of};
@@ -54,8 +55,8 @@ pub fn sections_keep_their_frames<M: Module>()
 /// An update leaves each list to which none of its lines goes, whatever the request; so one whose lines all go to one list
 /// leaves the other two.
 pub fn updates_leave_other_lists()
-    ensures { (dict : Definitions) (kind : Section) (lines : List Line) (situation : Situation) (list : ListName) → list_any (goes_to list) lines ≡ false
-        → list_of (updated dict kind lines situation).situation.scope.lists list ≡ list_of situation.scope.lists list }
+    ensures { (dict : Definitions) (section : Section) (kind : GroupKind) (lines : List Line) (situation : Situation) (list : ListName) → list_any (goes_to list) lines ≡ false
+        → list_of (updated dict section kind lines situation).situation.scope.lists list ≡ list_of situation.scope.lists list }
 {}
 
 /// A fact of the three lists of a request, for the law below.

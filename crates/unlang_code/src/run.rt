@@ -7,7 +7,7 @@ ghost use Rattle.rad_outside.specs.Moments.{IsInTime};
 ghost use Rattle.mod_base.specs.Reaching.{Reaches, Stops};
 ghost use Rattle.unlang_tree.specs.EachCall.{calls_in, calls_in_kind};
 ghost use Rattle.unlang_tree.specs.declared.statement.Group.{out-Group};
-ghost use Rattle.unlang_code.specs.Run.{called, one_child, IsUpdate, kind_done, statement_done, run_of, formed, rotated, balanced_in, group_done, section_done};
+ghost use Rattle.unlang_code.specs.Run.{called, update_code, one_child, IsUpdate, kind_done, statement_done, run_of, formed, rotated, balanced_in, group_done, section_done};
 ghost use Rattle.unlang_code.specs.Progressing.{come_to, done_in, ends_as};
 ghost use Rattle.unlang_code.specs.Serving.{IsServed, AreServed};
 
@@ -66,6 +66,13 @@ fn update(
 {
     let done = do_lines(alloc, lines, scope, dict)?;
     Ok(child_of(section, kind, &[], update_code(done)))
+}
+
+/// The code of an update whose lines were all done, or weren't.
+fn update_code(done: bool) -> Code
+    ensures { result ≡ update_code done }
+{
+    if done { Code::Noop } else { Code::Fail }
 }
 
 /// Does a statement of this kind.

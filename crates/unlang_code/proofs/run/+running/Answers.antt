@@ -178,7 +178,7 @@ pub run_kind-returns-in_err-child-in-Update-clause-memory :
     goal.run_kind-returns-in_err-child-in-Update-clause-memory
 run_kind-returns-in_err-child-in-Update-clause-memory g t c =
     let Stopped : Piece → Type 0 = λ (p : Piece). OnErr c.from_residual.result (Stops c.args.scope.now (g.W.World.state c.args.world.now) (λ s. (p c.args.kind s).situation.effects) (g.W.World.state c.args.world.now)) in
-    subst Stopped (sym (ap (kind_done g.M.Module.meaning c.args.stack.now c.args.dict.now c.args.section) c.in-Update.is ∙ by_update g.M.Module.meaning c.args.stack.now c.args.dict.now c.args.section c.in-Update.edit)) (on_err c.from_residual.result (update_stops c.args.section c.args.kind c.in-Update.edit c.args.scope.now (g.W.World.state c.args.world.now)))
+    subst Stopped (sym (ap (kind_done g.M.Module.meaning c.args.stack.now c.args.dict.now c.args.section) c.in-Update.is ∙ by_update g.M.Module.meaning c.args.stack.now c.args.dict.now c.args.section c.in-Update.lines)) (on_err c.from_residual.result (update_stops c.args.dict.now c.args.section c.args.kind c.in-Update.lines c.args.scope.now (g.W.World.state c.args.world.now)))
 
 pub run_kind-returns-in-Call-clause-memory : goal.run_kind-returns-in-Call-clause-memory
 run_kind-returns-in-Call-clause-memory g t c =
@@ -199,7 +199,7 @@ pub run_kind-returns-in_ok-child-in-Update-clause-ok :
     goal.run_kind-returns-in_ok-child-in-Update-clause-ok
 run_kind-returns-in_ok-child-in-Update-clause-ok g t c =
     let Reached : Piece → Type 0 = λ (p : Piece). Reaches c.args.scope.now (g.W.World.state c.args.world.now) (p c.args.kind) c.update.new.scope (g.W.World.state c.args.world.now) (done_in c.of_child.result) in
-    subst Reached (sym (ap (kind_done g.M.Module.meaning c.args.stack.now c.args.dict.now c.args.section) c.in-Update.is ∙ by_update g.M.Module.meaning c.args.stack.now c.args.dict.now c.args.section c.in-Update.edit)) (rw c.of_child.ensures (update_reaches c.args.section c.args.kind c.in-Update.edit c.args.scope.now c.update.new.scope (g.W.World.state c.args.world.now) c.in_ok-child-in-Update.child c.in_ok-child-in-Update.ensures))
+    subst Reached (sym (ap (kind_done g.M.Module.meaning c.args.stack.now c.args.dict.now c.args.section) c.in-Update.is ∙ by_update g.M.Module.meaning c.args.stack.now c.args.dict.now c.args.section c.in-Update.lines)) (rw c.of_child.ensures (update_reaches c.args.dict.now c.args.section c.args.kind c.in-Update.lines c.args.scope.now c.update.new.scope (g.W.World.state c.args.world.now) c.in_ok-child-in-Update.child c.in_ok-child-in-Update.ensures))
 
 pub run_members-loop-statement-init : goal.run_members-loop-statement-init
 run_members-loop-statement-init g t c =
