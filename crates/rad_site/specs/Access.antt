@@ -88,6 +88,7 @@ abbrev pub authorized_by : Policies → Definitions → Option SectionId → Sit
 authorized_by policies dict None s = (s, None)
 authorized_by policies dict (Some id) s = let done = done_in policies dict id s in (done.0, after_authorize done.1)
 
+-- What is decided by the section authorize of a server.
 abbrev pub authorized : Policies → Definitions → List ℕ → Situation → Situation × Option Verdict
 authorized policies dict server s = authorized_by policies dict (section_named policies.table server Authorize None) s
 

@@ -105,12 +105,14 @@ pub record LetsInBy (IsOfKind : SiteModule → Type 0) (policies : Policies) (se
   pub alone : (name : List ℕ) (id : SectionId) (statements : List Statement) → section_named policies.table server Authenticate (Some name) ≡ Some id
       → statements_of policies.table id ≡ Some statements → IsAlone IsOfKind policies.stack statements
 
--- Passwords alone let requests to a server in; answers to challenges alone; one of both.
+-- Passwords alone let requests to a server in.
 abbrev pub ChecksPasswords : Policies → List ℕ → Type 0
 ChecksPasswords = LetsInBy IsPap
 
+-- Answers to challenges alone let requests to a server in.
 abbrev pub ChecksChallenges : Policies → List ℕ → Type 0
 ChecksChallenges = LetsInBy IsChap
 
+-- Passwords and answers to challenges let requests to a server in, and nothing else.
 abbrev pub ChecksEither : Policies → List ℕ → Type 0
 ChecksEither = LetsInBy IsPapOrChap

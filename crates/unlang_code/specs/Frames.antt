@@ -12,6 +12,7 @@ use Rattle.unlang_tree.specs.declared.statement.Statement.{Statement}
 use Rattle.unlang_tree.specs.declared.statement.StatementKind.{StatementKind}
 use Rattle.unlang_tree.specs.declared.statement.StatementKind.TheVariants as kind
 
+-- Two names of lists are the same.
 abbrev pub same_list : ListName → ListName → Bool
 same_list Request Request = true
 same_list Request Reply = false

@@ -28,6 +28,7 @@ pub data Signal : Type 0 where
   Breaks : Signal
   Returns : Signal
 
+-- The run goes on with the next statement.
 abbrev pub goes : Signal → Bool
 goes Goes = true
 goes Breaks = false
@@ -102,6 +103,7 @@ is_over outcome = if goes outcome.signal then list_any ends outcome.children els
 abbrev pub behind : List Child → Outcome → Outcome
 behind children outcome = record outcome { children = children ++ outcome.children }
 
+-- A piece, and the rest behind it where the group isn't over.
 abbrev pub and_then : Bool → Outcome → (Situation → Outcome) → Outcome
 and_then true first rest = first
 and_then false first rest = behind first.children (rest first.situation)
@@ -120,6 +122,7 @@ run_of meaning stack dict section statements = block_of (map (statement_done mea
 abbrev pub judged_in : Section → Outcome → Situation × Code
 judged_in section outcome = (outcome.situation, unwrap_or (judged outcome.children) (default_code section))
 
+-- What the statements of a section mean, from its beginning to its code.
 abbrev pub section_done : {M : Type 0} → Meaning M → List M → Definitions → Section → List Statement → Situation → Situation × Code
 section_done meaning stack dict section statements situation = judged_in section (run_of meaning stack dict section statements (in_scope (begun situation.scope) situation))
 

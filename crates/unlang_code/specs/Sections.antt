@@ -15,13 +15,15 @@ use Rattle.unlang_code.specs.declared.section_id.SectionId.{SectionId}
 abbrev pub in_32_bits : ℕ → Option ℕ
 in_32_bits place = if nat_lt place 4294967296 then Some place else None
 
--- A server has this name; a subsection has it, in any case of its ASCII letters; a section is of this kind.
+-- A server has this name, octet by octet.
 abbrev pub is_server_named : List ℕ → ServerTree → Bool
 is_server_named name server = bytes_eq server.name name
 
+-- A subsection has this name, in any case of its ASCII letters.
 abbrev pub is_named : List ℕ → Subsection → Bool
 is_named name subsection = str_eq_ignore_ascii_case subsection.name name
 
+-- A section is of this kind.
 abbrev pub is_of_kind : Section → SectionTree → Bool
 is_of_kind kind tree = place_of tree.section == place_of kind
 

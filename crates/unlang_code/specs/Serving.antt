@@ -16,6 +16,7 @@ use Rattle.unlang_code.specs.Sections.{statements_of}
 abbrev pub IsServed : {M : Type 0} → Meaning M → List M → Section → Call → Type 0
 IsServed {M} meaning stack section call = (m : M) × (slice_get stack call.instance ≡ Some m) × (has_method (meaning.methods m) section ≡ true)
 
+-- A call is served; an update needs no module.
 abbrev pub IsKindServed : {M : Type 0} → Meaning M → List M → Section → StatementKind → Type 0
 IsKindServed meaning stack where_it_stands (kind.Call call) = IsServed meaning stack where_it_stands call
 IsKindServed meaning stack where_it_stands (kind.Update lines) = Unit {0}

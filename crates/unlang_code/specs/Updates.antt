@@ -31,6 +31,7 @@ abbrev pub read : Option Value → Said
 read None = said.Unreadable
 read (Some v) = said.Value v
 
+-- A text, read as a value of an attribute under a dictionary.
 abbrev pub read_as : AttrKind → List ℕ → Definitions → Said
 read_as attr text dict = read (value_of attr.kind attr.id text dict)
 
@@ -44,6 +45,7 @@ abbrev pub first_as : AttrId → AttrKind → Option Value → Definitions → S
 first_as from attr None dict = said.Nothing
 first_as from attr (Some v) dict = converted from attr v dict
 
+-- What a reference gives as a value of an attribute: the first value that it names.
 abbrev pub referred : Reference → AttrKind → PairLists → Definitions → Said
 referred reference attr lists dict = first_as reference.attr.id attr (slice_get (values_of reference lists) 0) dict
 
@@ -87,10 +89,12 @@ abbrev pub IsTriedTo : Option PairLists → Scope → Scope → Bool → Type 0
 IsTriedTo None before now done = (now ≡ before) × (done ≡ false)
 IsTriedTo (Some lists) before now done = (now ≡ with_lists lists before) × (done ≡ true)
 
+-- A line whose right side came to this left this scope and this answer.
 abbrev pub IsDoneWith : Line → Said → Scope → Scope → Bool → Type 0
 IsDoneWith line (said.Value v) before now done = IsTriedTo (tried before.lists (edit_of line v)) before now done
 IsDoneWith line said.Nothing before now done = (now ≡ before) × (done ≡ true)
 IsDoneWith line said.Unreadable before now done = (now ≡ before) × (done ≡ false)
 
+-- A line left this scope and this answer.
 abbrev pub IsLineDone : Definitions → Line → Scope → Scope → Bool → Type 0
 IsLineDone dict line before now done = IsDoneWith line (said_by dict line.attr line.right before) before now done

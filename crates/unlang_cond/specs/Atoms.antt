@@ -33,6 +33,7 @@ use Rattle.unlang_cond.specs.Sides.{is_quoted, quoted_at, referred, side_at, ope
 abbrev pub is_name : List ℕ → List ℕ → Bool
 is_name word name = str_eq_ignore_ascii_case word name
 
+-- The constant of this name, `true` or `false`.
 unfoldable pub constant_of : List ℕ → Option Bool
 constant_of word = if is_name word (codes "true") then Some true else (if is_name word (codes "false") then Some false else None)
 
@@ -116,6 +117,7 @@ related_by (Compares cmp) left text right dict = compared_at left cmp (after_bla
 related_by (Looks negative) left text right dict = looked_at left negative (after_blanks right)
 related_by Other left text right dict = Err (BadCondition (length (after_blanks text)))
 
+-- The atom that a side begins, with the relation that stands behind it.
 unfoldable pub related : Side → List ℕ → Definitions → Result (Atom × List ℕ) Wrong
 related left text dict = related_by (relation_at (after_blanks text)).0 left text (relation_at (after_blanks text)).1 dict
 

@@ -30,17 +30,21 @@ standing_by token.Or [] = []
 standing_by token.Or (b ∷ []) = b ∷ []
 standing_by token.Or (b ∷ a ∷ trees) = Or a b ∷ trees
 
+-- The trees that tokens put on those before them.
 abbrev pub standing : List Token → List Tree → List Tree
 standing [] trees = trees
 standing (t ∷ tokens) trees = standing tokens (standing_by t trees)
 
+-- The tree that was put last.
 abbrev pub uppermost : List Tree → Tree
 uppermost [] = Always
 uppermost (t ∷ trees) = t
 
+-- The tokens of a tree, each behind its operands.
 abbrev pub to_marks : Tree → List Token
 to_marks t = marks t []
 
+-- The tree of such tokens.
 abbrev pub from_marks : List Token → Tree
 from_marks tokens = uppermost (standing tokens [])
 
@@ -55,5 +59,6 @@ one_standing (Or a b) rest trees = one_standing a (marks b (token.Or ∷ rest)) 
 pub from-to : (t : Tree) → from_marks (to_marks t) ≡ t
 from-to t = ap uppermost (one_standing t [] [])
 
+-- Trees are coded as their tokens.
 abbrev pub tree_code : Coded Tree
 tree_code = code_by (List Token) (coded_list row.the_row.coded) to_marks from_marks from-to

@@ -13,6 +13,7 @@ use Rattle.unlang_xlat.specs.Texts.{expanded}
 use Rattle.unlang_cond.specs.declared.fault.Wrong.{Wrong}
 use Rattle.unlang_cond.specs.declared.fault.Wrong.TheVariants.{BadCondition, UnknownAttr}
 
+-- An expansion that was read: its parts.
 abbrev pub Expansion : Type 0
 Expansion = List Part
 
@@ -23,6 +24,7 @@ error_of (xlat.UnknownAttr at) left = errors.Wrong (UnknownAttr left)
 error_of (xlat.UnknownFunction at) left = errors.Wrong (BadCondition left)
 error_of xlat.NoMemory left = errors.NoMemory
 
+-- What is wrong with a condition whose expansion has this fault; want of memory isn't, and has any.
 abbrev pub wrong_of : XlatFault → ℕ → Wrong
 wrong_of (xlat.BadExpansion at) left = BadCondition left
 wrong_of (xlat.UnknownAttr at) left = UnknownAttr left

@@ -41,5 +41,6 @@ looked_for source insensitive text = option_and_then (λ (re, names). looked (le
 abbrev pub located : CaptureLocations → List ℕ → ℕ → Option (List ℕ)
 located locations text n = if nat_lt n (location_count locations) then option_and_then (cut_out text) (location locations n) else None
 
+-- What the locations of a match capture, for the whole and eight groups.
 abbrev pub all_located : CaptureLocations → List ℕ → List (Option (List ℕ))
 all_located locations text = map (located locations text) nine

@@ -54,9 +54,11 @@ took meaning negated (Some Met) scope = (Some Met, scope)
 took meaning negated (Some Failed) scope = (Some Failed, scope)
 took meaning negated (Some Going) scope = (Some (settled negated (meaning scope).0), (meaning scope).1)
 
+-- A group at this point.
 abbrev pub group : Option Progress → Bool → Group
 group progress negated = record { progress = progress; negated = negated }
 
+-- A group of which nothing was read.
 abbrev pub fresh_group : Group
 fresh_group = group (Some Going) false
 
@@ -69,6 +71,7 @@ abbrev pub opening : List Group → List Group
 opening [] = []
 opening (g ∷ outer) = group (opened g.progress) false ∷ g ∷ outer
 
+-- The innermost group is closed, and is an operand of the one around it.
 abbrev pub closing : List Group → List Group
 closing [] = []
 closing (g ∷ []) = g ∷ []
@@ -88,6 +91,7 @@ advanced_by token.And g outer scope dict = (g ∷ outer, scope)
 advanced_by token.Or g outer scope dict = (group (alternative g.progress) g.negated ∷ outer, scope)
 advanced_by (token.Atom a) g outer scope dict = ((atom_taken a g scope dict).0 ∷ outer, (atom_taken a g scope dict).1)
 
+-- The groups and the scope behind one step.
 abbrev pub advance : Token → List Group → Scope → Definitions → List Group × Scope
 advance t [] scope dict = ([], scope)
 advance t (g ∷ outer) scope dict = advanced_by t g outer scope dict

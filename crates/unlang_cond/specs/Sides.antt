@@ -44,6 +44,7 @@ single_at text = elim (quoted_len 39 (drop 1 text)) [
   | Some len ↦ Ok (side.Literal (written spelling.Single (take len (drop 1 text))), drop (len + 1) (drop 1 text))
 ]
 
+-- The side that stands in quotes of either kind.
 abbrev pub quoted_at : List ℕ → Definitions → Result (Side × List ℕ) Wrong
 quoted_at text dict = if slice_index text 0 == 34 then double_at text dict else single_at text
 
@@ -81,6 +82,7 @@ value_by (Nth n) reference text dict = value_of reference.attr.kind reference.at
 value_by All reference text dict = value_of reference.attr.kind reference.attr.id text dict
 value_by Count reference text dict = option_map value.Number (numeral_of text)
 
+-- The value that a text is, compared with what a reference names.
 abbrev pub value_read : Reference → List ℕ → Definitions → Option Value
 value_read reference text dict = value_by reference.which reference text dict
 

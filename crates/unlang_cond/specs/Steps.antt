@@ -23,6 +23,7 @@ pattern_of_atom (atom.Values reference cmp o) = None
 pattern_of_atom (atom.Texts left cmp right) = None
 pattern_of_atom (atom.Look s negative pattern) = Some pattern
 
+-- The pattern of a token, if it looks for one.
 abbrev pub pattern_in : Token → Option Pattern
 pattern_in token.Not = None
 pattern_in token.Open = None
@@ -37,19 +38,22 @@ IsReady None compiled = compiled ≡ None
 IsReady (Some pattern) None = ⊥
 IsReady (Some pattern) (Some compiled) = (compiled ≡ (pattern.source, pattern.insensitive)) × IsTaken pattern
 
+-- A step has this token, with its pattern compiled.
 pub record IsReadyStep (t : Token) (step : Step) : Type 0 where
   pub token_is : step.token ≡ t
   pub ready : IsReady (pattern_in t) step.pattern
 
+-- Each step has its pattern compiled.
 abbrev pub AreReady : List Step → Type 0
 AreReady [] = Unit {0}
 AreReady (step ∷ steps) = IsReadyStep step.token step × AreReady steps
 
--- A pattern is taken where there is one, and each pattern of tokens is.
+-- A pattern is taken where there is one.
 abbrev pub IsFit : Option Pattern → Type 0
 IsFit None = Unit {0}
 IsFit (Some pattern) = IsTaken pattern
 
+-- Each pattern of tokens is taken.
 abbrev pub AreFit : List Token → Type 0
 AreFit [] = Unit {0}
 AreFit (t ∷ tokens) = IsFit (pattern_in t) × AreFit tokens
@@ -64,6 +68,7 @@ abbrev pub Refuses : Option Pattern → ℕ → Type 0
 Refuses None left = ⊥
 Refuses (Some pattern) left = (pattern.left ≡ left) × IsRefused pattern
 
+-- A pattern is refused there, unless memory ran out.
 abbrev pub RefusedBy : ReadError ℕ → Option Pattern → Type 0
 RefusedBy errors.NoMemory pattern = Unit {0}
 RefusedBy (errors.Wrong left) pattern = Refuses pattern left
@@ -73,6 +78,7 @@ abbrev pub RefusesAt : List Token → ℕ → Type 0
 RefusesAt [] left = ⊥
 RefusesAt (t ∷ tokens) left = Refuses (pattern_in t) left ⊎ RefusesAt tokens left
 
+-- One of the tokens has a pattern that is refused there, unless memory ran out.
 abbrev pub RefusedIn : ReadError ℕ → List Token → Type 0
 RefusedIn errors.NoMemory tokens = Unit {0}
 RefusedIn (errors.Wrong left) tokens = RefusesAt tokens left

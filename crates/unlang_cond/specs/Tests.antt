@@ -63,6 +63,7 @@ operand_values reference (operand.Expansion x) scope dict = option_to_list (valu
 abbrev pub one_holds : Cmp → List Value → Value → Bool
 one_holds cmp rights left = list_any (λ (right : Value). unwrap_or (comparison left cmp right) false) rights
 
+-- A comparison of values holds of some value of the left side and some value of the right.
 abbrev pub values_hold : List Value → Cmp → List Value → Bool
 values_hold lefts cmp rights = list_any (one_holds cmp rights) lefts
 

@@ -20,6 +20,7 @@ order_by None (Some b) left right = slice_cmp nat_cmp left right
 order_by (Some a) None left right = slice_cmp nat_cmp left right
 order_by (Some a) (Some b) left right = nat_cmp a b
 
+-- The order of two texts as numbers, where both are.
 abbrev pub number_order : List ℕ → List ℕ → Ordering
 number_order left right = order_by (number_in left) (number_in right) left right
 

@@ -29,6 +29,7 @@ link_at depth text =
     else (if slice_index text 0 == 124 && slice_index text 1 == 124 then Ok (token.Or, drop 2 text)
     else Err (BadCondition (length text))))
 
+-- The token at the front: an operand where one is awaited, else what links operands or closes a group.
 abbrev pub token_at : Bool → ℕ → List ℕ → Definitions → Result (Token × List ℕ) Wrong
 token_at awaits depth text dict = if awaits then operand_at text dict else link_at depth text
 
@@ -50,6 +51,7 @@ depth_after token.And depth = depth
 depth_after token.Or depth = depth
 depth_after (token.Atom a) depth = depth
 
+-- How many parentheses are open behind tokens, where so many were before.
 unfoldable pub depth_from : ℕ → List Token → ℕ
 depth_from depth [] = depth
 depth_from depth (t ∷ tokens) = depth_from (depth_after t depth) tokens

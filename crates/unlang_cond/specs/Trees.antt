@@ -8,6 +8,7 @@ use Rattle.unlang_cond.specs.declared.atom.Token.{Token}
 use Rattle.unlang_cond.specs.declared.atom.Token.TheVariants as token
 use Rattle.unlang_cond.specs.Tests.{test}
 
+-- A condition as a tree of atoms. One without an operand always holds.
 pub data Tree : Type 0 where
   Always : Tree
   Leaf : Atom → Tree
@@ -30,6 +31,7 @@ pub record Branch : Type 0 where
   pub chain : Option Tree
   pub negated : Bool
 
+-- A group of which nothing was read.
 abbrev pub fresh : Branch
 fresh = record { before = None; chain = None; negated = false }
 
@@ -38,10 +40,12 @@ abbrev pub anded : Option Tree → Tree → Tree
 anded None t = t
 anded (Some a) t = And a t
 
+-- An alternative behind those before it.
 abbrev pub ored : Option Tree → Tree → Tree
 ored None t = t
 ored (Some a) t = Or a t
 
+-- An operand behind an odd number of `!`, or an even one.
 abbrev pub negating : Bool → Tree → Tree
 negating true t = Not t
 negating false t = t
@@ -73,14 +77,17 @@ grown_by token.And g outer = g ∷ outer
 grown_by token.Or g outer = record { before = Some (whole g); chain = None; negated = g.negated } ∷ outer
 grown_by (token.Atom a) g outer = given (Leaf a) g ∷ outer
 
+-- The open groups behind a step.
 abbrev pub grow : Token → List Branch → List Branch
 grow t [] = []
 grow t (g ∷ outer) = grown_by t g outer
 
+-- The open groups behind steps.
 unfoldable pub grown : List Branch → List Token → List Branch
 grown branches [] = branches
 grown branches (t ∷ tokens) = grown (grow t branches) tokens
 
+-- The tree of the innermost group.
 abbrev pub innermost : List Branch → Tree
 innermost [] = Always
 innermost (g ∷ outer) = whole g

@@ -24,6 +24,7 @@ bare_len passed (c ∷ rest) = if bare_left passed (c ∷ rest) == 0 then 0 else
 abbrev pub bare_word : List ℕ → List ℕ
 bare_word text = take (bare_len 0 text) text
 
+-- What follows the bare word at the front.
 abbrev pub after_word : List ℕ → List ℕ
 after_word text = drop (bare_len 0 text) text
 
@@ -33,5 +34,6 @@ written_from how out escaped [] = out
 written_from how out true (c ∷ rest) = written_from how (out ++ escape_of how c) false rest
 written_from how out false (c ∷ rest) = if c == 92 then written_from how out true rest else written_from how (out ++ c ∷ []) false rest
 
+-- The text that octets between quotes write.
 abbrev pub written : Spelling → List ℕ → List ℕ
 written how raw = written_from how [] false raw

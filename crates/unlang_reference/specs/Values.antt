@@ -33,6 +33,7 @@ values_of reference lists = meant reference.which (stored_values reference lists
 abbrev pub others : AttrId → List Value → Definitions → List ℕ
 others attr values dict = flat_map (λ (v : Value). 44 ∷ plain_text attr v dict) values
 
+-- The plain texts of values, joined by commas.
 abbrev pub joined : AttrId → List Value → Definitions → List ℕ
 joined attr [] dict = []
 joined attr (first ∷ rest) dict = plain_text attr first dict ++ others attr rest dict
@@ -43,5 +44,6 @@ text_by (Nth n) attr values dict = joined attr (meant (Nth n) values) dict
 text_by All attr values dict = joined attr values dict
 text_by Count attr values dict = decimal (length values)
 
+-- The text of what a reference names in the lists.
 abbrev pub text_of : Reference → PairLists → Definitions → List ℕ
 text_of reference lists dict = text_by reference.which reference.attr.id (stored_values reference lists) dict

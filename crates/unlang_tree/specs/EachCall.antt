@@ -17,6 +17,7 @@ abbrev pub calls_in_kind : StatementKind → List Call
 calls_in_kind (kinds.Call call) = call ∷ []
 calls_in_kind (kinds.Update lines) = []
 
+-- The calls of a statement with its place, in order.
 abbrev pub calls_in : Statement → List Call
 calls_in statement = calls_in_kind statement.kind
 
@@ -36,6 +37,7 @@ EachCallWithin holds section subsections = AllByRecursion (λ (sub : Subsection)
 abbrev pub EachCallIn : (Section → Call → Type 0) → SectionTree → Type 0
 EachCallIn holds tree = EachCall holds tree.section tree.statements × EachCallWithin holds tree.section tree.subsections
 
+-- It holds of each call of each of these sections.
 abbrev pub EachCallOfSections : (Section → Call → Type 0) → List SectionTree → Type 0
 EachCallOfSections holds sections = AllByRecursion (EachCallIn holds) sections
 

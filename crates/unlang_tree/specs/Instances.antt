@@ -17,6 +17,7 @@ pub record Instance : Type 0 where
 abbrev pub instance_of : Vec ℕ Global × MethodSet → Instance
 instance_of entry = record { name = entry.0.items; methods = entry.1 }
 
+-- An instance has this name, octet by octet.
 abbrev pub is_named : List ℕ → Instance → Bool
 is_named name instance = bytes_eq name instance.name
 

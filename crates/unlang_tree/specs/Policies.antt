@@ -34,6 +34,7 @@ with_server site servers node = elim (server_block node) [
 abbrev pub servers_of : Site → Result (List ServerTree) TreeFault
 servers_of site = after_each (with_server site) [] site.root
 
+-- The policies of a configuration's nodes, with this dictionary and these instances.
 abbrev pub policies_of : List Node → Definitions → List Instance → Result (List ServerTree) TreeFault
 policies_of root dict instances = servers_of (record { root = root; dict = dict; instances = instances })
 

@@ -32,6 +32,7 @@ fault_at wrong.NotBuilt place = fault.NotBuilt place
 unfoldable pub one_more : ℕ → Place → Result (Unit {0}) TreeFault
 one_more room place = if nat_lt 0 room then Ok tt else Err (fault.TooMany place)
 
+-- How many statements a server has room for.
 abbrev pub most_statements : ℕ
 most_statements = 65536
 

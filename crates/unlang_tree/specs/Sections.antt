@@ -84,6 +84,7 @@ with_written section.Preacct node known statement = with_run known statement
 with_written section.Accounting node known statement = with_run known statement
 with_written section.PostAuth node known statement = with_run known statement
 
+-- The parts with a statement directly in a section, where it counts as written.
 abbrev pub with_one : Section → Node → Parts → Option Statement → Parts
 with_one where_it_stands node known None = known
 with_one where_it_stands node known (Some statement) = with_written where_it_stands node known statement
@@ -95,6 +96,7 @@ with_part site where_it_stands known node = elim (subsection_block where_it_stan
   | None ↦ statement_at site where_it_stands known.room node >>= λ statement. Ok (with_one where_it_stands node known statement)
 ]
 
+-- What is known of a section by its nodes.
 abbrev pub parts_of : Site → Section → ℕ → List Node → Result Parts TreeFault
 parts_of site where_it_stands room body =
     after_each (with_part site where_it_stands) (record { statements = []; subsections = []; room = room }) body
