@@ -7,7 +7,9 @@
 
 mod judgement;
 mod laws;
+mod members;
 mod observer;
+mod progress;
 mod run;
 mod section_id;
 mod table;

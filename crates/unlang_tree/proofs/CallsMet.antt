@@ -1,5 +1,5 @@
 -- Each call that is read is of an instance that is there and has a method for its section.
-use Rattle.std.proofs.Common.{codes, ◌≡◌, ℕ, ◌-◌, Bool, true, false, not, ◌&&◌, ◌||◌, cond, if◌then◌else◌, List, [], ◌∷◌, ◌++◌, length, Option, Some, None, is_some, Result, Ok, Err, sym, ap, subst, ◌∙◌}
+use Rattle.std.proofs.Common.{codes, ◌≡◌, ℕ, zero, suc, ◌-◌, Bool, true, false, not, ◌&&◌, ◌||◌, cond, if◌then◌else◌, List, [], ◌∷◌, ◌++◌, Option, Some, None, is_some, Result, Ok, Err, sym, ap, subst, ◌∙◌}
 use Rattle.std.specs.List.{AllByRecursion, list_all}
 use Rattle.std.specs.Str.{str_eq_ignore_ascii_case}
 use Rattle.std.proofs.lemmas.Grind.{flat_map-append}
@@ -16,7 +16,13 @@ use Rattle.unlang_tree.specs.declared.fault.TreeFault.{TreeFault}
 use Rattle.unlang_tree.specs.declared.fault.TreeFault.TheVariants as fault
 use Rattle.unlang_tree.specs.declared.statement.Call.{Call}
 use Rattle.unlang_tree.specs.declared.statement.Statement.{Statement}
+use Rattle.unlang_tree.specs.declared.statement.StatementKind.{StatementKind}
 use Rattle.unlang_tree.specs.declared.statement.StatementKind.TheVariants as kinds
+use Rattle.unlang_tree.specs.declared.statement.GroupForm.{GroupForm}
+use Rattle.unlang_tree.specs.declared.statement.Override.{Override}
+use Rattle.unlang_tree.specs.declared.update.Line.{Line}
+use Rattle.unlang_tree.specs.declared.statements.Counted.{Counted}
+use Rattle.unlang_tree.specs.declared.groups.Members.{Members}
 use Rattle.unlang_tree.specs.declared.policies.Subsection.{Subsection}
 use Rattle.unlang_tree.specs.declared.policies.SectionTree.{SectionTree}
 use Rattle.unlang_tree.specs.declared.policies.ServerTree.{ServerTree}
@@ -24,16 +30,18 @@ use Rattle.unlang_tree.specs.declared.subsections.Parts.{Parts}
 use Rattle.unlang_tree.specs.declared.servers.Known.{Known}
 use Rattle.unlang_tree.specs.Instances.{Instance, number_of}
 use Rattle.unlang_tree.specs.Sites.{Site}
-use Rattle.unlang_tree.specs.Readings.{one_more, after_each, most_statements}
-use Rattle.unlang_tree.specs.Words.{is_one_of, later_words, later_blocks}
+use Rattle.unlang_tree.specs.Readings.{one_more, one_deeper, most_levels, after_each, most_statements}
+use Rattle.unlang_tree.specs.Words.{is_one_of, is_return, later_words, form_named, later_blocks}
 use Rattle.unlang_tree.specs.Calls.{is_policy, can_be_called, call_of, is_optional, called_name, is_there, call_at}
-use Rattle.unlang_tree.specs.Actions.{overrides_of}
+use Rattle.unlang_tree.specs.Actions.{with_override, overrides_of}
 use Rattle.unlang_tree.specs.Updates.{update_at}
-use Rattle.unlang_tree.specs.Statements.{counted_call, word_at, is_pair, with_actions, call_block_at, update_statement, block_at, statement_at, and_also, with_statement, statements_of}
+use Rattle.unlang_tree.specs.Statements.{with_room, one_statement, counted_call, word_at, is_pair, with_actions, call_block_at, update_statement}
+use Rattle.unlang_tree.specs.Groups.{Opener, other_block, formed_block, block_by, statement_by, and_also, with_own_action, with_member, no_members, group_of, group_at, statement_at, with_statement, members_of}
 use Rattle.unlang_tree.specs.Sections.{subsection_block, with_subsection, own_name, with_call, with_run, with_written, with_one, with_part, parts_of, section_block, with_section, with_item, server_of}
 use Rattle.unlang_tree.specs.Policies.{server_block, with_server, servers_of}
-use Rattle.unlang_tree.specs.EachCall.{calls_in, calls_of, EachCall, EachCallWithin, EachCallIn, EachCallOfSections, EachCallOf, IsMet}
-use Rattle.unlang_tree.proofs.Binds.{ok_same, err_ok, bind_ok, past, passed, kept, all_both, all_wider}
+use Rattle.unlang_tree.specs.EachCall.{calls_in_kind, calls_in, calls_of, EachCall, EachCallWithin, EachCallIn, EachCallOfSections, EachCallOf, IsMet}
+use Rattle.unlang_tree.proofs.CallsWithin.{calls_by_kind, calls_of_call, calls_of_return, calls_of_update, calls_of_made}
+use Rattle.unlang_tree.proofs.Binds.{ok_same, err_ok, bind_ok, past, passed, either, kept, all_both, all_wider}
 
 module _ (holds : Section → Call → Type 0) (section : Section) where
   -- one statement more
@@ -113,99 +121,181 @@ module _ (site : Site) where
       (some_met section (call_of site.root site.instances section place (called_name word)) call (call_met section place (called_name word))) e
 
   -- the calls of a statement that may not be written
-  abbrev AreMetIf : Section → Option Statement → Type 0
+  abbrev AreMetIf : Section → Option Counted → Type 0
   AreMetIf section None = Unit {0}
-  AreMetIf section (Some one) = AllByRecursion (IsMet site.instances section) (calls_in one)
+  AreMetIf section (Some one) = AllByRecursion (IsMet site.instances section) (calls_in one.statement)
 
-  counted_met : (section : Section) (room : ℕ) (place : Place) (call : Option Call) (statement : Option Statement) → IsMetIf section call
+  abbrev KindMet : Section → StatementKind → Type 0
+  KindMet section kind = AllByRecursion (IsMet site.instances section) (calls_in_kind kind)
+
+  kind_met : (section : Section) (left : ℕ) (place : Place) (kind : StatementKind) → KindMet section kind → AreMetIf section (Some (with_room left place kind))
+  kind_met section left place kind met =
+      subst (AllByRecursion (IsMet site.instances section)) (sym (calls_by_kind (record { place = place; kind = kind }))) met
+
+  call_kind_met : (section : Section) (call : Call) → IsMet site.instances section call → KindMet section (kinds.Call call)
+  call_kind_met section call met = subst (AllByRecursion (IsMet site.instances section)) (sym (calls_of_call call)) (met, tt)
+
+  stated_met : (section : Section) (room : ℕ) (place : Place) (kind : StatementKind) (statement : Option Counted) → KindMet section kind
+      → one_statement room place kind ≡ Ok statement → AreMetIf section statement
+  unfolding one_statement
+  stated_met section room place kind statement met e =
+      let last = bind_ok (one_more room place) (λ done. Ok (Some (with_room (room - 1) place kind))) statement e in
+      subst (AreMetIf section) (ok_same (Some (with_room (room - 1) place kind)) statement last.1.1) (kind_met section (room - 1) place kind met)
+
+  counted_met : (section : Section) (room : ℕ) (place : Place) (call : Option Call) (statement : Option Counted) → IsMetIf section call
       → counted_call room place call ≡ Ok statement → AreMetIf section statement
   unfolding counted_call
   counted_met section room place None statement met e = subst (AreMetIf section) (ok_same None statement e) tt
-  counted_met section room place (Some call) statement met e =
-      let one : Statement = record { place = place; kind = kinds.Call call } in
-      let last = bind_ok (one_more room place) (λ counted. Ok (Some one)) statement e in
-      subst (AreMetIf section) (ok_same (Some one) statement last.1.1) (met, tt)
+  counted_met section room place (Some call) statement met e = stated_met section room place (kinds.Call call) statement (call_kind_met section call met) e
 
-  word_met : (section : Section) (room : ℕ) (place : Place) (word : List ℕ) (statement : Option Statement)
+  word_met : (section : Section) (room : ℕ) (place : Place) (word : List ℕ) (statement : Option Counted)
       → word_at site section room place word ≡ Ok statement → AreMetIf section statement
   unfolding word_at
   word_met section room place word statement e =
-      let rest = past (is_one_of later_words word) (fault.NotBuilt place) (call_at site.root site.instances section place word >>= counted_call room place) statement e in
+      let called : Result (Option Counted) TreeFault = call_at site.root site.instances section place word >>= counted_call room place in
+      either (is_return word) (one_statement room place kinds.Return) (if is_one_of later_words word then Err (fault.NotBuilt place) else called) statement
+      (stated_met section room place kinds.Return statement (subst (AllByRecursion (IsMet site.instances section)) (sym calls_of_return) tt))
+      (λ behind.
+      let rest = past (is_one_of later_words word) (fault.NotBuilt place) called statement behind in
       let one = bind_ok (call_at site.root site.instances section place word) (counted_call room place) statement rest in
-      counted_met section room place one.0 statement (word_call_met section place word one.0 one.1.0) one.1.1
+      counted_met section room place one.0 statement (word_call_met section place word one.0 one.1.0) one.1.1)
+      e
 
-  actions_met : (section : Section) (room : ℕ) (place : Place) (pairs : List Node) (call : Option Call) (statement : Option Statement) → IsMetIf section call
-      → with_actions room place pairs call ≡ Ok statement → AreMetIf section statement
+  abbrev acting : Call → List Override → StatementKind
+  acting call overrides = kinds.Call (record { instance = call.instance; overrides = overrides })
+
+  actions_met : (section : Section) (levels room : ℕ) (place : Place) (pairs : List Node) (call : Option Call) (statement : Option Counted) → IsMetIf section call
+      → with_actions levels room place pairs call ≡ Ok statement → AreMetIf section statement
   unfolding with_actions
-  actions_met section room place pairs None statement met e = subst (AreMetIf section) (ok_same None statement e) tt
-  actions_met section room place pairs (Some call) statement met e =
-      let counted = bind_ok (one_more room place) (λ counted. overrides_of pairs >>= λ overrides. Ok (Some (record { place = place; kind = kinds.Call (record { instance = call.instance; overrides = overrides }) }))) statement e in
-      let given = bind_ok (overrides_of pairs) (λ overrides. Ok (Some (record { place = place; kind = kinds.Call (record { instance = call.instance; overrides = overrides }) }))) statement counted.1.1 in
-      subst (AreMetIf section) (ok_same (Some (record { place = place; kind = kinds.Call (record { instance = call.instance; overrides = given.0 }) })) statement given.1.1) (met, tt)
+  actions_met section levels room place pairs None statement met e = subst (AreMetIf section) (ok_same None statement e) tt
+  actions_met section levels room place pairs (Some call) statement met e =
+      let last : List Override → Result (Option Counted) TreeFault = λ overrides. Ok (Some (with_room (room - 1) place (acting call overrides))) in
+      let opened = bind_ok (one_deeper levels place) (λ opened. one_more room place >>= λ done. overrides_of pairs >>= last) statement e in
+      let counted = bind_ok (one_more room place) (λ done. overrides_of pairs >>= last) statement opened.1.1 in
+      let given = bind_ok (overrides_of pairs) last statement counted.1.1 in
+      subst (AreMetIf section) (ok_same (Some (with_room (room - 1) place (acting call given.0))) statement given.1.1)
+      (kind_met section (room - 1) place (acting call given.0) (call_kind_met section (record { instance = call.instance; overrides = given.0 }) met))
 
-  call_block_met : (section : Section) (room : ℕ) (place : Place) (kind : List ℕ) (name : Option Word) (body : List Node) (statement : Option Statement)
-      → call_block_at site section room place kind name body ≡ Ok statement → AreMetIf section statement
+  call_block_met : (section : Section) (levels room : ℕ) (place : Place) (kind : List ℕ) (name : Option Word) (body : List Node) (statement : Option Counted)
+      → call_block_at site section levels room place kind name body ≡ Ok statement → AreMetIf section statement
   unfolding call_block_at
-  call_block_met section room place kind name body statement e =
-      let rest = past (is_some name || not (list_all is_pair body)) (fault.UnknownKeyword place) (call_at site.root site.instances section place kind >>= λ call. with_actions room place body call) statement e in
-      let one = bind_ok (call_at site.root site.instances section place kind) (λ call. with_actions room place body call) statement rest in
-      actions_met section room place body one.0 statement (word_call_met section place kind one.0 one.1.0) one.1.1
+  call_block_met section levels room place kind name body statement e =
+      let rest = past (is_some name || not (list_all is_pair body)) (fault.UnknownKeyword place) (call_at site.root site.instances section place kind >>= λ call. with_actions levels room place body call) statement e in
+      let one = bind_ok (call_at site.root site.instances section place kind) (λ call. with_actions levels room place body call) statement rest in
+      actions_met section levels room place body one.0 statement (word_call_met section place kind one.0 one.1.0) one.1.1
 
-  update_met : (section : Section) (room : ℕ) (place : Place) (name : Option Word) (body : List Node) (statement : Option Statement)
-      → update_statement site room place name body ≡ Ok statement → AreMetIf section statement
-  update_met section room place name body statement e =
-      let one = bind_ok (update_at site.dict room place name body) (λ lines. Ok (Some (record { place = place; kind = kinds.Update lines }))) statement e in
-      subst (AreMetIf section) (ok_same (Some (record { place = place; kind = kinds.Update one.0 })) statement one.1.1) tt
+  update_met : (section : Section) (levels room : ℕ) (place : Place) (name : Option Word) (body : List Node) (statement : Option Counted)
+      → update_statement site levels room place name body ≡ Ok statement → AreMetIf section statement
+  unfolding update_statement
+  update_met section levels room place name body statement e =
+      let last : List Line → Result (Option Counted) TreeFault = λ lines. Ok (Some (with_room (room - 1) place (kinds.Update lines))) in
+      let opened = bind_ok (one_deeper levels place) (λ opened. update_at site.dict room place name body >>= last) statement e in
+      let one = bind_ok (update_at site.dict room place name body) last statement opened.1.1 in
+      subst (AreMetIf section) (ok_same (Some (with_room (room - 1) place (kinds.Update one.0))) statement one.1.1)
+      (kind_met section (room - 1) place (kinds.Update one.0) (subst (AllByRecursion (IsMet site.instances section)) (sym (calls_of_update one.0)) tt))
 
-  either_met : (section : Section) (b : Bool) (left right : Result (Option Statement) TreeFault) (statement : Option Statement)
-      → (left ≡ Ok statement → AreMetIf section statement) → (right ≡ Ok statement → AreMetIf section statement) → cond b left right ≡ Ok statement → AreMetIf section statement
-  either_met section true left right statement one other e = one e
-  either_met section false left right statement one other e = other e
+  other_met : (section : Section) (levels room : ℕ) (place : Place) (kind : List ℕ) (name : Option Word) (body : List Node) (statement : Option Counted)
+      → other_block site section levels room place kind name body ≡ Ok statement → AreMetIf section statement
+  unfolding other_block
+  other_met section levels room place kind name body statement e =
+      call_block_met section levels room place kind name body statement
+      (past (is_one_of later_blocks kind) (fault.NotBuilt place) (call_block_at site section levels room place kind name body) statement e)
 
-  block_met : (section : Section) (room : ℕ) (place : Place) (kind : List ℕ) (name : Option Word) (body : List Node) (statement : Option Statement)
-      → block_at site section room place kind name body ≡ Ok statement → AreMetIf section statement
-  unfolding block_at
-  block_met section room place kind name body statement e =
-      either_met section (str_eq_ignore_ascii_case kind (codes "update")) (update_statement site room place name body)
-      (if is_one_of later_blocks kind then Err (fault.NotBuilt place) else call_block_at site section room place kind name body) statement
-      (update_met section room place name body statement)
-      (λ rest. call_block_met section room place kind name body statement (past (is_one_of later_blocks kind) (fault.NotBuilt place) (call_block_at site section room place kind name body) statement rest))
+  -- a reader of blocks whose calls are met
+  abbrev OpenerMet : Section → Opener → Type 0
+  OpenerMet section opener = (room : ℕ) (place : Place) (form : GroupForm) (body : List Node) (one : Counted) → opener room place form body ≡ Ok one → AreMetIf section (Some one)
+
+  formed_met : (section : Section) (opener : Opener) (levels room : ℕ) (place : Place) (kind : List ℕ) (name : Option Word) (body : List Node) (form : Option GroupForm) (statement : Option Counted)
+      → OpenerMet section opener → formed_block opener site section levels room place kind name body form ≡ Ok statement → AreMetIf section statement
+  formed_met section opener levels room place kind name body None statement met e = other_met section levels room place kind name body statement e
+  formed_met section opener levels room place kind name body (Some form) statement met e =
+      let one = bind_ok (opener room place form body) (λ (one : Counted). Ok (Some one)) statement e in
+      subst (AreMetIf section) (ok_same (Some one.0) statement one.1.1) (met room place form body one.0 one.1.0)
+
+  block_met : (section : Section) (opener : Opener) (levels room : ℕ) (place : Place) (kind : List ℕ) (name : Option Word) (body : List Node) (statement : Option Counted)
+      → OpenerMet section opener → block_by opener site section levels room place kind name body ≡ Ok statement → AreMetIf section statement
+  unfolding block_by
+  block_met section opener levels room place kind name body statement met e =
+      either (str_eq_ignore_ascii_case kind (codes "update")) (update_statement site levels room place name body)
+      (formed_block opener site section levels room place kind name body (form_named kind)) statement
+      (update_met section levels room place name body statement)
+      (formed_met section opener levels room place kind name body (form_named kind) statement met)
       e
 
   -- a node by its item, as `out-Item` opens it
-  abbrev item_at : Section → ℕ → Node → Layer → Result (Option Statement) TreeFault
-  item_at section room node item = elim item [
+  abbrev item_by : Section → Opener → ℕ → ℕ → Node → Layer → Result (Option Counted) TreeFault
+  item_by section opener levels room node item = elim item [
     | level.Pair left operator right ↦ Err (fault.BadAction node.place)
     | level.Name word ↦ word_at site section room node.place word.text
-    | level.Block kind name body ↦ block_at site section room node.place kind.text name body
+    | level.Block kind name body ↦ block_by opener site section levels room node.place kind.text name body
   ]
 
-  item_met : (section : Section) (room : ℕ) (node : Node) (item : Layer) (statement : Option Statement)
-      → item_at section room node item ≡ Ok statement → AreMetIf section statement
-  item_met section room node (level.Pair left operator right) statement e = err_ok statement (fault.BadAction node.place) e
-  item_met section room node (level.Name word) statement e = word_met section room node.place word.text statement e
-  item_met section room node (level.Block kind name body) statement e = block_met section room node.place kind.text name body statement e
+  item_met : (section : Section) (opener : Opener) (levels room : ℕ) (node : Node) (item : Layer) (statement : Option Counted)
+      → OpenerMet section opener → item_by section opener levels room node item ≡ Ok statement → AreMetIf section statement
+  item_met section opener levels room node (level.Pair left operator right) statement met e = err_ok statement (fault.BadAction node.place) e
+  item_met section opener levels room node (level.Name word) statement met e = word_met section room node.place word.text statement e
+  item_met section opener levels room node (level.Block kind name body) statement met e = block_met section opener levels room node.place kind.text name body statement met e
 
-  statement_met : (section : Section) (room : ℕ) (node : Node) (statement : Option Statement) → statement_at site section room node ≡ Ok statement → AreMetIf section statement
-  unfolding statement_at
-  statement_met section room node statement e = item_met section room node (out-Item node.item) statement e
+  within_met : (section : Section) (opener : Opener) (levels room : ℕ) (node : Node) (statement : Option Counted)
+      → OpenerMet section opener → statement_by opener site section levels room node ≡ Ok statement → AreMetIf section statement
+  unfolding statement_by
+  within_met section opener levels room node statement met e = item_met section opener levels room node (out-Item node.item) statement met e
 
   abbrev AreMet : Section → List Statement → Type 0
   AreMet section statements = EachCall (IsMet site.instances) section statements
 
-  also_met : (section : Section) (statements : List Statement) (one : Option Statement) → AreMet section statements → AreMetIf section one → AreMet section (and_also statements one)
-  also_met section statements None all more = all
-  also_met section statements (Some one) all more = each_added (IsMet site.instances) section statements one all more
+  abbrev MembersMet : Section → Members → Type 0
+  MembersMet section members = AreMet section members.statements
 
-  step_met : (section : Section) (room : ℕ) (known next : List Statement) (node : Node) → AreMet section known → with_statement site section room known node ≡ Ok next → AreMet section next
+  also_met : (section : Section) (members : Members) (one : Option Counted) → MembersMet section members → AreMetIf section one → MembersMet section (and_also members one)
+  also_met section members None all more = all
+  also_met section members (Some one) all more = each_added (IsMet site.instances) section members.statements one.statement all more
+
+  own_action_met : (section : Section) (known next : Members) (node : Node) → MembersMet section known → with_own_action known node ≡ Ok next → MembersMet section next
+  unfolding with_own_action
+  own_action_met section known next node all e =
+      let one = bind_ok (with_override known.overrides node) (λ overrides. Ok (record { overrides = overrides; statements = known.statements; room = known.room })) next e in
+      subst (MembersMet section) (ok_same (record { overrides = one.0; statements = known.statements; room = known.room }) next one.1.1) all
+
+  member_met : (section : Section) (opener : Opener) (levels : ℕ) → OpenerMet section opener
+      → (known next : Members) (node : Node) → MembersMet section known → with_member opener site section levels known node ≡ Ok next → MembersMet section next
+  unfolding with_member
+  member_met section opener levels met known next node all e =
+      let read : Result (Option Counted) TreeFault = statement_by opener site section levels known.room node in
+      either (is_pair node) (with_own_action known node) (read >>= λ one. Ok (and_also known one)) next
+      (own_action_met section known next node all)
+      (λ rest.
+      let one = bind_ok read (λ one. Ok (and_also known one)) next rest in
+      subst (MembersMet section) (ok_same (and_also known one.0) next one.1.1)
+      (also_met section known one.0 all (within_met section opener levels known.room node one.0 met one.1.0)))
+      e
+
+  group_met : (section : Section) (levels : ℕ) → OpenerMet section (group_at site section levels)
+  unfolding group_at
+  group_met section zero room place form body one e = err_ok one (fault.TooDeep place) e
+  group_met section (suc levels) room place form body one e =
+      let step = with_member (group_at site section levels) site section levels in
+      let last : Members → Result Counted TreeFault = λ members. Ok (with_room members.room place (group_of form members)) in
+      let counted = bind_ok (one_more room place) (λ done. after_each step (no_members (room - 1)) body >>= last) one e in
+      let members = bind_ok (after_each step (no_members (room - 1)) body) last one counted.1.1 in
+      let met = kept step (MembersMet section) (member_met section (group_at site section levels) levels (group_met section levels)) (no_members (room - 1)) members.0 body tt members.1.0 in
+      subst (λ (c : Counted). AreMetIf section (Some c)) (ok_same (with_room members.0.room place (group_of form members.0)) one members.1.1)
+      (kind_met section members.0.room place (group_of form members.0)
+      (subst (AllByRecursion (IsMet site.instances section)) (sym (calls_of_made form members.0.overrides members.0.statements)) met))
+
+  statement_met : (section : Section) (room : ℕ) (node : Node) (statement : Option Counted) → statement_at site section room node ≡ Ok statement → AreMetIf section statement
+  statement_met section room node statement e =
+      within_met section (group_at site section most_levels) most_levels room node statement (group_met section most_levels) e
+
+  step_met : (section : Section) (known next : Members) (node : Node) → MembersMet section known → with_statement site section known node ≡ Ok next → MembersMet section next
   unfolding with_statement
-  step_met section room known next node all e =
-      let one = bind_ok (statement_at site section (room - length known) node) (λ statement. Ok (and_also known statement)) next e in
-      subst (AreMet section) (ok_same (and_also known one.0) next one.1.1) (also_met section known one.0 all (statement_met section (room - length known) node one.0 one.1.0))
+  step_met section known next node all e =
+      let one = bind_ok (statement_at site section known.room node) (λ statement. Ok (and_also known statement)) next e in
+      subst (MembersMet section) (ok_same (and_also known one.0) next one.1.1) (also_met section known one.0 all (statement_met section known.room node one.0 one.1.0))
 
-  statements_met : (section : Section) (room : ℕ) (nodes : List Node) (statements : List Statement) → statements_of site section room nodes ≡ Ok statements → AreMet section statements
-  statements_met section room nodes statements e =
-      kept (with_statement site section room) (AreMet section) (step_met section room) [] statements nodes tt e
+  members_met : (section : Section) (room : ℕ) (nodes : List Node) (members : Members) → members_of site section room nodes ≡ Ok members → MembersMet section members
+  members_met section room nodes members e =
+      kept (with_statement site section) (MembersMet section) (step_met section) (no_members room) members nodes tt e
 
   abbrev PartsMet : Section → Parts → Type 0
   PartsMet section known = AreMet section known.statements × EachCallWithin (IsMet site.instances) section known.subsections
@@ -217,9 +307,9 @@ module _ (site : Site) where
   subsection_met : (section : Section) (known next : Parts) (name : List ℕ) (body : List Node) → PartsMet section known → with_subsection site section known name body ≡ Ok next → PartsMet section next
   unfolding with_subsection
   subsection_met section known next name body all e =
-      let one = bind_ok (statements_of site section known.room body) (λ statements. Ok (record { statements = known.statements; subsections = known.subsections ++ record { name = name; statements = statements } ∷ []; room = known.room - length statements })) next e in
-      subst (PartsMet section) (ok_same (record { statements = known.statements; subsections = known.subsections ++ record { name = name; statements = one.0 } ∷ []; room = known.room - length one.0 }) next one.1.1)
-      (all.0, sub_added section known.subsections (record { name = name; statements = one.0 }) all.1 (statements_met section known.room body one.0 one.1.0))
+      let one = bind_ok (members_of site section known.room body) (λ (members : Members). Ok (record { statements = known.statements; subsections = known.subsections ++ record { name = name; statements = members.statements } ∷ []; room = members.room })) next e in
+      subst (PartsMet section) (ok_same (record { statements = known.statements; subsections = known.subsections ++ record { name = name; statements = one.0.statements } ∷ []; room = one.0.room }) next one.1.1)
+      (all.0, sub_added section known.subsections (record { name = name; statements = one.0.statements }) all.1 (members_met section known.room body one.0 one.1.0))
 
   own_met : (section : Section) (name : Option (List ℕ)) (statement : Statement) (subs : List Subsection) → EachCallWithin (IsMet site.instances) section subs
       → AllByRecursion (IsMet site.instances section) (calls_in statement) → EachCallWithin (IsMet site.instances) section (with_call name statement subs)
@@ -227,21 +317,21 @@ module _ (site : Site) where
   own_met section (Some name) statement subs all more =
       sub_added section subs (record { name = name; statements = statement ∷ [] }) all (each_added (IsMet site.instances) section [] statement tt more)
 
-  run_met : (section : Section) (known : Parts) (statement : Statement) → PartsMet section known → AllByRecursion (IsMet site.instances section) (calls_in statement) → PartsMet section (with_run known statement)
-  run_met section known statement all more = (each_added (IsMet site.instances) section known.statements statement all.0 more, all.1)
+  run_met : (section : Section) (known : Parts) (one : Counted) → PartsMet section known → AreMetIf section (Some one) → PartsMet section (with_run known one)
+  run_met section known one all more = (each_added (IsMet site.instances) section known.statements one.statement all.0 more, all.1)
 
-  written_met : (section : Section) (node : Node) (known : Parts) (statement : Statement) → PartsMet section known → AllByRecursion (IsMet site.instances section) (calls_in statement)
-      → PartsMet section (with_written section node known statement)
-  written_met which.Authorize node known statement all more = run_met which.Authorize known statement all more
-  written_met which.Authenticate node known statement all more = (all.0, own_met which.Authenticate (own_name node) statement known.subsections all.1 more)
-  written_met which.Session node known statement all more = run_met which.Session known statement all more
-  written_met which.Preacct node known statement all more = run_met which.Preacct known statement all more
-  written_met which.Accounting node known statement all more = run_met which.Accounting known statement all more
-  written_met which.PostAuth node known statement all more = run_met which.PostAuth known statement all more
+  written_met : (section : Section) (node : Node) (known : Parts) (one : Counted) → PartsMet section known → AreMetIf section (Some one)
+      → PartsMet section (with_written section node known one)
+  written_met which.Authorize node known one all more = run_met which.Authorize known one all more
+  written_met which.Authenticate node known one all more = (all.0, own_met which.Authenticate (own_name node one.statement.kind) one.statement known.subsections all.1 more)
+  written_met which.Session node known one all more = run_met which.Session known one all more
+  written_met which.Preacct node known one all more = run_met which.Preacct known one all more
+  written_met which.Accounting node known one all more = run_met which.Accounting known one all more
+  written_met which.PostAuth node known one all more = run_met which.PostAuth known one all more
 
-  one_met : (section : Section) (node : Node) (known : Parts) (statement : Option Statement) → PartsMet section known → AreMetIf section statement → PartsMet section (with_one section node known statement)
+  one_met : (section : Section) (node : Node) (known : Parts) (one : Option Counted) → PartsMet section known → AreMetIf section one → PartsMet section (with_one section node known one)
   one_met section node known None all more = all
-  one_met section node known (Some statement) all more = written_met section node known statement all more
+  one_met section node known (Some one) all more = written_met section node known one all more
 
   abbrev part_by : Section → Parts → Node → Option (List ℕ × List Node) → Result Parts TreeFault
   part_by section known node block = elim block [

@@ -1,5 +1,8 @@
 mod InstanceLemmas
 mod Walks
+mod GroupLevels
 mod WrittenCalls
+mod WrittenBlocks
 mod Binds
+pub mod CallsWithin
 pub mod CallsMet

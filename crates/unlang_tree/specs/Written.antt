@@ -9,8 +9,8 @@ use Rattle.rad_conf.specs.declared.tree.Item.TheOpen as level
 use Rattle.rad_words.specs.declared.sections.Section.{Section}
 use Rattle.unlang_tree.specs.declared.statement.Statement.{Statement}
 use Rattle.unlang_tree.specs.declared.statement.StatementKind.TheVariants as kinds
-use Rattle.unlang_tree.specs.Instances.{Instance, number_of}
-use Rattle.unlang_tree.specs.Words.{is_one_of, later_words}
+use Rattle.unlang_tree.specs.Instances.{number_of}
+use Rattle.unlang_tree.specs.Words.{is_word_statement}
 use Rattle.unlang_tree.specs.Calls.{is_policy, can_be_called, is_optional}
 use Rattle.unlang_tree.specs.Sites.{Site}
 
@@ -24,7 +24,7 @@ IsBlock node kind name body = out-Item node.item ≡ level.Block (record { quote
 
 -- A word is free to be a name: it is no statement of its own, and no policy has it.
 pub record IsFree (site : Site) (section : Section) (word name : List ℕ) : Type 0 where
-  pub no_statement : is_one_of later_words word ≡ false
+  pub no_statement : is_word_statement word ≡ false
   pub no_policy : is_policy site.root section name ≡ false
 
 -- An instance of this number and name has a method for the section.

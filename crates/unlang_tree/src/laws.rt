@@ -1,18 +1,21 @@
 //! The laws of policies, in the words of whoever writes them. They are facts about the definitions, and the functions do
 //! nothing.
 
-ghost use Rattle.std.specs.Prelude.{◌≡◌, Bool, true, ℕ, ◌≤◌, List, [], ◌∷◌, ◌++◌, length, codes, Some, None, Ok, Err};
+ghost use Rattle.std.specs.Prelude.{◌≡◌, Bool, true, ℕ, ◌-◌, ◌<◌, ◌≤◌, List, [], ◌∷◌, ◌++◌, length, codes, Option, Some, None, Ok, Err};
 ghost use Rattle.rad_conf.specs.declared.tree.Node.{Node};
 ghost use Rattle.rad_conf.specs.declared.tree.Word.{Word};
 ghost use Rattle.rad_words.specs.declared.sections.Section.{Section as AnySection};
 ghost use Rattle.unlang_tree.specs.declared.statement.Statement.{Statement as AnyStatement};
 ghost use Rattle.unlang_tree.specs.Sites.{Site};
-ghost use Rattle.unlang_tree.specs.Statements.{statements_of};
+ghost use Rattle.unlang_tree.specs.Groups.{statement_at, statements_of};
 ghost use Rattle.unlang_tree.specs.Policies.{servers_of};
 ghost use Rattle.unlang_tree.specs.declared.statement.Call.{Call as AnyCall};
 ghost use Rattle.unlang_tree.specs.declared.policies.ServerTree.{ServerTree};
 ghost use Rattle.unlang_tree.specs.EachCall.{EachCall, EachCallOf, IsMet, Passes};
 ghost use Rattle.unlang_tree.specs.Written.{IsBlock, Spell, IsUnknown};
+ghost use Rattle.unlang_tree.specs.WrittenGroups.{word_for, group_from, SpellBlock, Around};
+ghost use Rattle.unlang_tree.specs.declared.statement.GroupForm.{GroupForm as AnyForm};
+ghost use Rattle.unlang_tree.specs.declared.statement.Override.{Override as AnyOverride};
 
 use crate::fault::TreeFault;
 use rad_words::Section;
@@ -40,6 +43,22 @@ pub fn a_written_site_is_read()
         → site.root ≡ server ∷ [] → IsBlock server (codes "server") (Some name) (authorize ∷ []) → IsBlock authorize (codes "authorize") None nodes
         → Spell site Section.Authorize nodes calls → length calls ≤ 65536
         → servers_of site ≡ Ok (record { name = name.text; sections = record { section = Section.Authorize; statements = calls; subsections = [] } ∷ [] } ∷ []) }
+{}
+
+/// A block that is written as `group { .. }`, or with the word of its kin, with calls, `return`, actions of its own and such
+/// blocks in it, no more than 31 within one another, is read as that block, with these actions and exactly these statements in
+/// order, wherever the server has room for it and them: it is one statement, and leaves so many fewer.
+pub fn a_written_group_is_read()
+    ensures { (site : Site) (section : AnySection) (room : ℕ) (node : Node) (form : AnyForm) (name : Option Word) (body : List Node) (own : List AnyOverride) (inner : List AnyStatement) (count : ℕ)
+        → IsBlock node (word_for form) name body → SpellBlock site section 31 body own inner count → count < room
+        → statement_at site section room node ≡ Ok (Some (record { statement = group_from node form own inner; room = room - 1 - count })) }
+{}
+
+/// A block of statements around which 32 others stand within one another, each the first thing in the one before it, is the
+/// fault TooDeep of its section, at the block's own place, wherever the server has room for the others.
+pub fn the_33rd_block_is_too_deep()
+    ensures { (site : Site) (section : AnySection) (room : ℕ) (node : Node) (last : Node)
+        → Around 32 node last → 32 ≤ room → statement_at site section room node ≡ Err (TreeFault.TooDeep last.place) }
 {}
 
 /// In the policies of a configuration each call is of an instance that is there and has a method for the section in which

@@ -9,6 +9,7 @@
 mod actions;
 mod calls;
 mod fault;
+mod groups;
 mod instances;
 mod laws;
 mod policies;
@@ -26,11 +27,14 @@ mod words;
 pub use fault::{AddFault, TreeFault};
 pub use instances::Instances;
 pub use laws::{
-    a_written_site_is_read, each_call_can_be_made, the_first_unknown_word_is_the_fault,
+    a_written_group_is_read, a_written_site_is_read, each_call_can_be_made,
+    the_33rd_block_is_too_deep, the_first_unknown_word_is_the_fault,
     what_holds_of_each_call_can_be_widened, written_calls_are_read,
 };
 pub use mod_base::MethodSet;
 pub use policies::{Policies, SectionTree, Sections, ServerTree, Subsection, Subsections};
-pub use statement::{Call, Override, Overrides, Statement, StatementKind, Statements};
+pub use statement::{
+    Call, Group, GroupForm, Override, Overrides, Statement, StatementKind, Statements,
+};
 pub use tree::Tree;
 pub use update::{Line, Lines, Right};
