@@ -14,3 +14,4 @@ pub mod Keeping
 pub mod FrameLaws
 pub mod Lines
 pub mod OtherLists
+mod ChoosingLeads
