@@ -7,6 +7,7 @@ use Rattle.rad_words.specs.declared.codes.Code.{Code}
 use Rattle.rad_words.specs.declared.codes.Code.TheVariants as code
 use Rattle.rad_words.specs.declared.sections.Section.{Section}
 use Rattle.rad_words.specs.declared.sections.Section.TheVariants.{Authorize, Authenticate}
+use Rattle.rad_tables.specs.declared.group_kind.GroupKind.TheVariants.{Plain}
 use Rattle.rad_value.specs.Pairs.{first_text}
 use Rattle.rad_value.specs.PairLists.{PairLists}
 use Rattle.rad_value.specs.declared.values.Pair.{Pair}
@@ -14,6 +15,7 @@ use Rattle.rad_dict.specs.Definitions.{Definitions}
 use Rattle.mod_base.specs.Situation.{Situation}
 use Rattle.mod_auth.specs.LetsIn.{KnowsThePassword, HasTheDigest}
 use Rattle.mod_auth.proofs.LetIn.{pap_lets_in, chap_lets_in}
+use Rattle.unlang_tree.specs.declared.statement.Call.{Call}
 use Rattle.unlang_tree.specs.declared.statement.Statement.{Statement}
 use Rattle.unlang_tree.specs.declared.statement.StatementKind.{StatementKind}
 use Rattle.unlang_tree.specs.declared.statement.StatementKind.TheVariants as kinds
@@ -22,9 +24,10 @@ use Rattle.unlang_tree.specs.declared.policies.ServerTree.{ServerTree}
 use Rattle.unlang_code.specs.declared.section_id.SectionId.{SectionId}
 use Rattle.unlang_code.specs.Judgement.{default_code}
 use Rattle.unlang_code.specs.Leaves.{EachLeaf, LeafKeeps, leaves_of}
-use Rattle.unlang_code.specs.Run.{Outcome, in_scope, begun, called_of, called_with, kind_done, is_over, and_then, block_of, judged_in, section_done}
+use Rattle.unlang_code.specs.Run.{Outcome, Piece, in_scope, begun, called_of, called_with, kind_done, statement_done, is_over, and_then, block_of, judged_in, section_done}
 use Rattle.unlang_code.specs.Sections.{server_of, subsection_of, section_in, found, statements_of}
 use Rattle.unlang_code.proofs.Keeping.{section_keeps}
+use Rattle.unlang_code.proofs.Trees.{by_kind, by_call}
 use Rattle.rad_site.specs.declared.site_module.SiteModule.{SiteModule}
 use Rattle.rad_site.specs.declared.site_module.SiteModule.TheVariants as site
 use Rattle.rad_site.specs.declared.verdict.Verdict.{Verdict}
@@ -50,10 +53,10 @@ never_at_once code.Updated is = cc
 
 -- the code of a section of one piece
 abbrev of_piece : Outcome → Code
-of_piece piece = (judged_in Authenticate (and_then (is_over piece) piece (block_of []))).1
+of_piece piece = (judged_in Authenticate (and_then (is_over piece) piece (block_of Plain []))).1
 
 -- By a call with no actions of its own it accepts by ok alone.
-only_ok : (s : Situation) (answer : Code) → after_authenticate (of_piece (called_with Authenticate [] (s, answer))) ≡ verdict.Accept → answer ≡ code.Ok
+only_ok : (s : Situation) (answer : Code) → after_authenticate (of_piece (called_with Authenticate Plain [] (s, answer))) ≡ verdict.Accept → answer ≡ code.Ok
 only_ok s code.Reject is = absurd (cc)
 only_ok s code.Fail is = absurd (cc)
 only_ok s code.Ok is = refl
@@ -80,9 +83,13 @@ module _ (policies : Policies) (dict : Definitions) (IsOfKind : SiteModule → T
       let started = in_scope (begun s.scope) s in
       let one = alone.statement in
       let done = site_module.does alone.called dict Authenticate started in
-      let piece : kind_done site_module policies.stack dict Authenticate one.kind started ≡ called_with Authenticate [] done =
-      ap (λ (k : StatementKind). kind_done site_module policies.stack dict Authenticate k started) alone.calls
-      ∙ ap (λ (m : Option SiteModule). called_of site_module dict Authenticate [] m started) alone.is_there in
+      let call : Call = record { instance = alone.instance; overrides = [] } in
+      let piece : statement_done site_module policies.stack dict Authenticate one Plain started ≡ called_with Authenticate Plain [] done =
+      ap (λ (p : Piece). p Plain started)
+      (by_kind site_module policies.stack dict Authenticate one
+      ∙ ap (λ (k : StatementKind). kind_done site_module policies.stack dict Authenticate k) alone.calls
+      ∙ by_call site_module policies.stack dict Authenticate call)
+      ∙ ap (λ (m : Option SiteModule). called_of site_module dict Authenticate Plain [] m started) alone.is_there in
       let accepted = subst (λ (all : List Statement). after_authenticate (section_done site_module policies.stack dict Authenticate all s).1 ≡ verdict.Accept) alone.alone is in
       shows alone.called started alone.is_of_kind
       (only_ok done.0 done.1 (subst (λ (p : Outcome). after_authenticate (of_piece p) ≡ verdict.Accept) piece accepted))
