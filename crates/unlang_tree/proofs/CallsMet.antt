@@ -189,8 +189,7 @@ module _ (site : Site) where
   unfolding update_statement
   update_met section levels room place name body statement e =
       let last : List Line → Result (Option Counted) TreeFault = λ lines. Ok (Some (with_room (room - 1) place (kinds.Update lines))) in
-      let opened = bind_ok (one_deeper levels place) (λ opened. update_at site.dict room place name body >>= last) statement e in
-      let one = bind_ok (update_at site.dict room place name body) last statement opened.1.1 in
+      let one = bind_ok (update_at site.dict levels room place name body) last statement e in
       subst (AreMetIf section) (ok_same (Some (with_room (room - 1) place (kinds.Update one.0))) statement one.1.1)
       (kind_met section (room - 1) place (kinds.Update one.0) (subst (AllByRecursion (IsMet site.instances section)) (sym (calls_of_update one.0)) tt))
 

@@ -67,7 +67,5 @@ call_block_at site section levels room place kind name body =
 
 -- An update, where so many more blocks may be opened and the server has room for so many statements more.
 unfoldable pub update_statement : Site → ℕ → ℕ → Place → Option Word → List Node → Result (Option Counted) TreeFault
-update_statement site levels room place name body = do
-  opened ← one_deeper levels place
-  lines ← update_at site.dict room place name body
-  Ok (Some (with_room (room - 1) place (kinds.Update lines)))
+update_statement site levels room place name body =
+    update_at site.dict levels room place name body >>= λ lines. Ok (Some (with_room (room - 1) place (kinds.Update lines)))

@@ -174,8 +174,7 @@ pub(crate) fn update_statement(
 ) -> Result<Option<Counted>, TreeFault>
     ensures { Gives result (update_statement (site_of site.now) levels room place.now name.now body.now) }
 {
-    one_deeper(alloc, levels, place)?;
-    let lines = update_at(alloc, site.dict, room, place, name, body)?;
+    let lines = update_at(alloc, site.dict, levels, room, place, name, body)?;
     let left = room.saturating_sub(1);
     Ok(Some(with_room(alloc, left, place, StatementKind::Update(lines))?))
 }
