@@ -1,12 +1,13 @@
 -- Where all that statements of authenticate do is to call modules that change nothing, whatever blocks they stand in, ok is an answer of one of
 -- these modules.
-use Rattle.std.specs.Prelude.{map, slice_get, find, nat_lt, length}
+use Rattle.std.specs.Prelude.{map, slice_get, find, nat_lt, length, unwrap_or}
 use Rattle.std.specs.List.{AllByRecursion}
 use Rattle.std.specs.Option.{option_map, option_to_list}
 use Rattle.std.proofs.ByRecursion.{All-append, All-take, All-drop}
 use Rattle.std.proofs.Common.{◌≡◌, ◌⊎◌, inl, inr, ℕ, Bool, true, false, cond, List, [], ◌∷◌, ◌++◌, take, drop, Option, Some, None, refl, sym, ap, subst, ◌∙◌}
 use Rattle.rad_words.specs.declared.codes.Code.{Code}
 use Rattle.rad_words.specs.declared.codes.Code.TheVariants as code
+use Rattle.rad_words.specs.declared.sections.Section.{Section}
 use Rattle.rad_words.specs.declared.sections.Section.TheVariants.{Authenticate}
 use Rattle.rad_tables.specs.declared.action_table.Action.{Action}
 use Rattle.rad_tables.specs.declared.action_table.Action.TheVariants as action
@@ -22,12 +23,15 @@ use Rattle.unlang_tree.specs.declared.statement.GroupForm.TheVariants as form
 use Rattle.unlang_tree.specs.declared.statement.Override.{Override}
 use Rattle.unlang_tree.specs.declared.statement.Statement.{Statement}
 use Rattle.unlang_code.specs.declared.judgement.Child.{Child}
-use Rattle.unlang_code.specs.Judgement.{child_of, ends, ending_code, heavier, heaviest, priority_of, judged}
-use Rattle.unlang_code.specs.Leaves.{Leaf, Calls, Edits, EachLeaf}
-use Rattle.unlang_code.specs.Run.{Outcome, Piece, nothing, returned, updated, called_of, called, is_over, and_then, behind, block_of, picked, alone, rotated, chosen, balanced_in, formed, child_by, grouped, run_of}
+use Rattle.unlang_code.specs.Judgement.{child_of, ends, ending_code, heavier, heaviest, priority_of, judged, default_code}
+use Rattle.unlang_code.specs.Leaves.{Calls, Edits, EachLeaf}
+use Rattle.unlang_code.specs.Run.{Outcome, Piece, nothing, returned, updated, called_of, called, is_over, and_then, behind, block_of, picked, alone, rotated, chosen, balanced_in, formed, child_by, grouped, in_scope, begun, statement_done, section_done}
 use Rattle.rad_site.specs.declared.site_module.SiteModule.{SiteModule}
 use Rattle.rad_site.specs.SiteModules.{site_module}
-use Rattle.rad_site.specs.Passwords.{CallsOnly}
+use Rattle.rad_site.specs.declared.site_module.SiteModule.TheVariants as site
+use Rattle.rad_site.specs.declared.verdict.Verdict.TheVariants as verdict
+use Rattle.rad_site.specs.Access.{after_authenticate}
+use Rattle.rad_site.specs.Passwords.{NeverOk, CallsOnly}
 use Rattle.rad_site.proofs.ByLeaves.{IsHandedOn, each_held}
 use Rattle.rad_site.proofs.Served.{found_one}
 
@@ -139,3 +143,71 @@ module _ (Has : List ℕ → PairLists → Type 0) where
       → AllByRecursion (Vouches s) (child_by section kind overrides answer)
   by_code s section kind overrides None has = tt
   by_code s section kind overrides (Some answer) has = ((λ is. has (ap (λ (c : Code). Some c) is)), tt)
+
+-- What the modules of a kind keep in authenticate, and what their answer ok says.
+abbrev pub Stays : Definitions → (SiteModule → Type 0) → Type 0
+Stays dict IsOfKind = (m : SiteModule) (s : Situation) → IsOfKind m → Alike s (site_module.does m dict Authenticate s).0
+
+-- Where a module of this kind answers ok in authenticate, this is so of the Request Authenticator and the lists.
+abbrev pub Shows : Definitions → (SiteModule → Type 0) → (List ℕ → PairLists → Type 0) → Type 0
+Shows dict IsOfKind Has = (m : SiteModule) (s : Situation) → IsOfKind m → (site_module.does m dict Authenticate s).1 ≡ code.Ok → Has s.scope.authenticator s.scope.lists
+
+-- By its code authenticate accepts at ok alone.
+only_ok : (answer : Option Code) → after_authenticate (unwrap_or answer (default_code Authenticate)) ≡ verdict.Accept → answer ≡ Some code.Ok
+only_ok None is = absurd (cc)
+only_ok (Some code.Reject) is = absurd (cc)
+only_ok (Some code.Fail) is = absurd (cc)
+only_ok (Some code.Ok) is = refl
+only_ok (Some code.Handled) is = absurd (cc)
+only_ok (Some code.Invalid) is = absurd (cc)
+only_ok (Some code.Userlock) is = absurd (cc)
+only_ok (Some code.Notfound) is = absurd (cc)
+only_ok (Some code.Noop) is = absurd (cc)
+only_ok (Some code.Updated) is = absurd (cc)
+
+module _ (stack : List SiteModule) (dict : Definitions) (IsOfKind : SiteModule → Type 0) (Has : List ℕ → PairLists → Type 0) (stays : Stays dict IsOfKind) (shows : Shows dict IsOfKind Has) where
+  never_sound : (m : SiteModule) → NeverOk m → (kind : GroupKind) (overrides : List Override) (s : Situation) → IsSound Has s (called_of site_module dict Authenticate kind overrides (Some m) s)
+  never_sound (site.Always m) never kind overrides s = record { alike = record { lists = refl; authenticator = refl }; children = ((λ is. absurd (never is)), tt) }
+  never_sound (site.Files m) never kind overrides s = absurd never
+  never_sound (site.Pap m) never kind overrides s = absurd never
+  never_sound (site.Chap m) never kind overrides s = absurd never
+
+  module_sound : (m : SiteModule) → IsOfKind m ⊎ NeverOk m → (kind : GroupKind) (overrides : List Override) (s : Situation) → IsSound Has s (called_of site_module dict Authenticate kind overrides (Some m) s)
+  module_sound m (inl is) kind overrides s =
+      let kept = stays m s is in record {
+        alike = record { lists = kept.lists; authenticator = kept.authenticator };
+        children = ((λ ok. shows m s is ok), tt);
+      }
+  module_sound m (inr never) kind overrides s = never_sound m never kind overrides s
+
+  call_sound : (call : Call) → CallsOnly IsOfKind stack (Calls call) → Sound Has (λ kind. called site_module stack dict Authenticate kind call)
+  call_sound call asked kind s =
+      subst (λ (o : Option SiteModule). IsSound Has s (called_of site_module dict Authenticate kind call.overrides o s)) (sym asked.1.0) (module_sound asked.0 asked.1.1 kind call.overrides s)
+
+  update_sound : (lines : List Line) → AllByRecursion (CallsOnly IsOfKind stack) (map Edits lines) → Sound Has (λ kind. updated dict Authenticate kind lines)
+  update_sound [] all kind s = record { alike = record { lists = refl; authenticator = refl }; children = ((λ is. absurd (cc)), tt) }
+  update_sound (line ∷ lines) all kind s = absurd all.0
+
+  block_held : (shape : GroupForm) (overrides : List Override) (pieces : List Piece) → AllByRecursion (Sound Has) pieces → Sound Has (λ kind s. grouped Authenticate kind overrides (formed shape pieces s))
+  block_held shape overrides pieces all kind s =
+      let sound = formed_sound Has shape pieces all s in record {
+        alike = sound.alike;
+        children = by_code Has s Authenticate kind overrides (judged (formed shape pieces s).children) (judged_sound Has s (formed shape pieces s).children sound.children);
+      }
+
+  handed_on : IsHandedOn site_module stack dict Authenticate (CallsOnly IsOfKind stack) (Sound Has)
+  handed_on = record {
+    calls = call_sound;
+    returns = λ kind s. record { alike = record { lists = refl; authenticator = refl }; children = tt };
+    updates = update_sound;
+    blocks = block_held;
+  }
+
+  -- A section of authenticate that only calls such modules accepts only where it is so.
+  pub section_has : (statements : List Statement) (s : Situation) → EachLeaf (CallsOnly IsOfKind stack) statements
+      → after_authenticate (section_done site_module stack dict Authenticate statements s).1 ≡ verdict.Accept → HasIn Has s
+  section_has statements s each is =
+      let started = in_scope (begun s.scope) s in
+      let pieces = map (statement_done site_module stack dict Authenticate) statements in
+      let sound = block_sound Has Plain pieces (each_held site_module stack dict Authenticate (CallsOnly IsOfKind stack) (Sound Has) handed_on statements each) started in
+      judged_sound Has started (block_of Plain pieces started).children sound.children (only_ok (judged (block_of Plain pieces started).children) is)
