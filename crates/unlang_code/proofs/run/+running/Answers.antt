@@ -15,7 +15,8 @@ use Rattle.std.proofs.Common.{arith, take, drop, sym, ap, subst, ◌∙◌}
 use Rattle.mod_base.proofs.Reached.{reaches_start, reaches_joined, reaches_then, reaches_as}
 use Rattle.unlang_tree.specs.declared.statement.Statement.{Statement}
 use Rattle.unlang_code.specs.declared.progress.Ended.{Ended}
-use Rattle.unlang_code.specs.Run.{Piece, returned}
+use Rattle.unlang_code.specs.Run.{Piece, returned, IsUpdate}
+use Rattle.unlang_tree.specs.declared.update.Line.{Line}
 use Rattle.unlang_code.proofs.Pieces.{finished, ends_is}
 use Rattle.unlang_code.specs.declared.progress.Progress.{Progress}
 use Rattle.unlang_code.specs.declared.progress.Progress.TheVariants.{Going, Over}
@@ -199,7 +200,7 @@ pub run_kind-returns-in_ok-child-in-Update-clause-ok :
     goal.run_kind-returns-in_ok-child-in-Update-clause-ok
 run_kind-returns-in_ok-child-in-Update-clause-ok g t c =
     let Reached : Piece → Type 0 = λ (p : Piece). Reaches c.args.scope.now (g.W.World.state c.args.world.now) (p c.args.kind) c.update.new.scope (g.W.World.state c.args.world.now) (done_in c.of_child.result) in
-    subst Reached (sym (ap (kind_done g.M.Module.meaning c.args.stack.now c.args.dict.now c.args.section) c.in-Update.is ∙ by_update g.M.Module.meaning c.args.stack.now c.args.dict.now c.args.section c.in-Update.lines)) (rw c.of_child.ensures (update_reaches c.args.dict.now c.args.section c.args.kind c.in-Update.lines c.args.scope.now c.update.new.scope (g.W.World.state c.args.world.now) c.in_ok-child-in-Update.child c.in_ok-child-in-Update.ensures))
+    subst Reached (sym (ap (kind_done g.M.Module.meaning c.args.stack.now c.args.dict.now c.args.section) c.in-Update.is ∙ by_update g.M.Module.meaning c.args.stack.now c.args.dict.now c.args.section c.in-Update.lines)) (rw c.of_child.ensures (update_reaches c.args.dict.now c.args.section c.args.kind c.in-Update.lines c.args.scope.now c.update.new.scope (g.W.World.state c.args.world.now) c.in_ok-child-in-Update.child (subst (λ (lines : List Line). IsUpdate c.args.dict.now c.args.section c.args.kind lines c.args.scope.now c.update.new.scope c.in_ok-child-in-Update.child) c.as_slice.ensures c.in_ok-child-in-Update.ensures.done)))
 
 pub run_members-loop-statement-init : goal.run_members-loop-statement-init
 run_members-loop-statement-init g t c =
