@@ -4,14 +4,10 @@ use Rattle.std.specs.List.{AllByRecursion}
 use Rattle.std.proofs.Common.{◌≡◌, Bool, List, [], ◌∷◌, ◌++◌, Option, Some, None, sym, ap, subst, ◌∙◌, append_assoc}
 use Rattle.std.proofs.lemmas.List.{append-nil}
 use Rattle.rad_words.specs.declared.codes.Code.{Code}
-use Rattle.rad_words.specs.declared.codes.Code.TheVariants as code
 use Rattle.rad_tables.specs.declared.group_kind.GroupKind.{GroupKind}
-use Rattle.rad_tables.specs.declared.group_kind.GroupKind.TheVariants.{Plain}
 use Rattle.rad_words.specs.declared.sections.Section.{Section}
 use Rattle.rad_value.specs.declared.scope.Scope.{Scope}
 use Rattle.unlang_tree.specs.declared.update.Line.{Line}
-use Rattle.rad_value.specs.Edit.{tried}
-use Rattle.rad_value.specs.PairLists.{PairLists}
 use Rattle.rad_dict.specs.Definitions.{Definitions}
 use Rattle.rad_world.specs.Effects.{Effect, answers_of}
 use Rattle.rad_world.specs.World.{WorldState}
@@ -23,7 +19,6 @@ use Rattle.mod_base.proofs.Reached.{stops_start}
 use Rattle.unlang_tree.specs.declared.statement.Call.{Call}
 use Rattle.unlang_tree.specs.declared.statement.Statement.{Statement}
 use Rattle.unlang_code.specs.declared.judgement.Child.{Child}
-use Rattle.unlang_code.specs.Judgement.{child_of}
 use Rattle.unlang_code.specs.Run.{one_child, updated_with, updated, IsUpdate, called_of, called, run_of}
 use Rattle.unlang_code.specs.Leaves.{Leaf, Calls, Edits, module_done, leaf_done, leaves_of}
 use Rattle.unlang_code.proofs.Leaving.{IsLasting, LeafLeads, run_leads}
