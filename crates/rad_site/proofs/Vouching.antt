@@ -22,7 +22,6 @@ use Rattle.unlang_tree.specs.declared.statement.GroupForm.{GroupForm}
 use Rattle.unlang_tree.specs.declared.statement.GroupForm.TheVariants as form
 use Rattle.unlang_tree.specs.declared.statement.Override.{Override}
 use Rattle.unlang_tree.specs.declared.statement.Statement.{Statement}
-use Rattle.unlang_code.specs.declared.judgement.Child.{Child}
 use Rattle.unlang_code.specs.Judgement.{child_of, ends, ending_code, heavier, heaviest, priority_of, judged, default_code}
 use Rattle.unlang_code.specs.Leaves.{Calls, Edits, EachLeaf}
 use Rattle.unlang_code.specs.Run.{Outcome, Piece, nothing, returned, updated, called_of, called, is_over, and_then, behind, block_of, picked, alone, rotated, chosen, balanced_in, formed, child_by, grouped, in_scope, begun, statement_done, section_done}
@@ -34,6 +33,14 @@ use Rattle.rad_site.specs.Access.{after_authenticate}
 use Rattle.rad_site.specs.Passwords.{NeverOk, CallsOnly}
 use Rattle.rad_site.proofs.ByLeaves.{IsHandedOn, each_held}
 use Rattle.rad_site.proofs.Served.{found_one}
+
+-- what a function is given
+abbrev GivenTo : {X Y : Type 0} → (X → Y) → Type 0
+GivenTo {X = X} f = X
+
+-- a child of a group, whose type has no name outside its crate
+abbrev Child : Type 0
+Child = GivenTo ends
 
 -- Nothing that a check of passwords looks at differs between two situations.
 pub record Alike (s t : Situation) : Type 0 where
@@ -132,17 +139,17 @@ module _ (Has : List ℕ → PairLists → Type 0) where
       found.0 (ending_ok last.action last.code (cc))
   by_last s children None all at is = by_heaviest (heaviest children) refl is where
     by_heaviest : (first : Option Child) → heaviest children ≡ first → option_map (λ (c : Child). c.code) first ≡ Some code.Ok → HasIn s
-    by_heaviest None same_one no = absurd (cc)
-    by_heaviest (Some first) same_one yes = of_heaviest (Vouches s) children first all same_one (cc)
+    by_heaviest None same_one is_ok = absurd (cc)
+    by_heaviest (Some first) same_one is_ok = of_heaviest (Vouches s) children first all same_one (cc)
 
   -- a group of the code ok has a child that vouches
   pub judged_sound : (s : Situation) (children : List Child) → AllByRecursion (Vouches s) children → judged children ≡ Some code.Ok → HasIn s
   judged_sound s children all is = by_last s children (find ends children) all refl is
 
-  by_code : (s : Situation) (section : Section) (kind : GroupKind) (overrides : List Override) (answer : Option Code) → (answer ≡ Some code.Ok → HasIn s)
-      → AllByRecursion (Vouches s) (child_by section kind overrides answer)
-  by_code s section kind overrides None has = tt
-  by_code s section kind overrides (Some answer) has = ((λ is. has (ap (λ (c : Code). Some c) is)), tt)
+  by_code : (s : Situation) (where_it_stands : Section) (kind : GroupKind) (overrides : List Override) (answer : Option Code) → (answer ≡ Some code.Ok → HasIn s)
+      → AllByRecursion (Vouches s) (child_by where_it_stands kind overrides answer)
+  by_code s where_it_stands kind overrides None has = tt
+  by_code s where_it_stands kind overrides (Some answer) has = ((λ is. has (ap (λ (c : Code). Some c) is)), tt)
 
 -- What the modules of a kind keep in authenticate, and what their answer ok says.
 abbrev pub Stays : Definitions → (SiteModule → Type 0) → Type 0
@@ -182,7 +189,7 @@ module _ (stack : List SiteModule) (dict : Definitions) (IsOfKind : SiteModule �
 
   call_sound : (call : Call) → CallsOnly IsOfKind stack (Calls call) → Sound Has (λ kind. called site_module stack dict Authenticate kind call)
   call_sound call asked kind s =
-      subst (λ (o : Option SiteModule). IsSound Has s (called_of site_module dict Authenticate kind call.overrides o s)) (sym asked.1.0) (module_sound asked.0 asked.1.1 kind call.overrides s)
+      subst (λ (o : Option SiteModule). IsSound Has s (called_of site_module dict Authenticate kind call.overrides o s)) (sym asked.1) (module_sound asked.0 asked.2 kind call.overrides s)
 
   update_sound : (lines : List Line) → AllByRecursion (CallsOnly IsOfKind stack) (map Edits lines) → Sound Has (λ kind. updated dict Authenticate kind lines)
   update_sound [] all kind s = record { alike = record { lists = refl; authenticator = refl }; children = ((λ is. absurd (cc)), tt) }
