@@ -103,7 +103,7 @@ module _ (Has : List ℕ → PairLists → Type 0) where
   and_then_sound s first rest false one more = record {
     alike = alike_then s first.situation (rest first.situation).situation one.alike more.alike;
     children = All-append (Vouches s) first.children (rest first.situation).children one.children
-    (vouch_from s first.situation (rest first.situation).children one.alike more.children);
+        (vouch_from s first.situation (rest first.situation).children one.alike more.children);
   }
 
   block_sound : (kind : GroupKind) (pieces : List Piece) → AllByRecursion Sound pieces → (s : Situation) → IsSound s (block_of kind pieces s)
