@@ -6,7 +6,6 @@ pub mod Served
 pub mod Scopes
 pub mod Trees
 pub mod Requests
-pub mod Kept
 pub mod Finding
 pub mod UsersFiles
 pub mod Sites
@@ -14,3 +13,6 @@ pub mod Dictionaries
 pub mod Building
 pub mod AuthTypes
 pub mod PasswordsChecked
+pub mod PostAuth
+pub mod Accepted
+pub mod Rejected

@@ -29,7 +29,7 @@ use Rattle.rad_site.specs.declared.site_module.SiteModule.{SiteModule}
 use Rattle.rad_site.specs.declared.site_module.SiteModule.TheVariants as site
 use Rattle.rad_site.specs.declared.verdict.Verdict.{Verdict}
 use Rattle.rad_site.specs.declared.verdict.Verdict.TheVariants as verdict
-use Rattle.rad_site.specs.Access.{after_authorize, after_authenticate, section_named, route_of, done_in, authorized_by, authorized, decided_there, decided_behind, decided}
+use Rattle.rad_site.specs.Access.{after_authorize, after_authenticate, section_named, route_of, done_in, authorized_by, authorized, decided_there, decided_behind, let_in}
 use Rattle.rad_site.specs.Attributes.{auth_type}
 use Rattle.rad_site.specs.Passwords.{is_accept, NeverAccept, IsPap, IsChap, IsPapOrChap, IsAlone, LetsInBy}
 use Rattle.rad_site.specs.Policies.{Policies}
@@ -65,7 +65,7 @@ only_ok s code.Noop is = absurd (cc)
 only_ok s code.Updated is = absurd (cc)
 
 -- Where a module of this kind answers ok in authenticate, this is so of the Request Authenticator and the lists.
-abbrev Shows : Definitions → (SiteModule → Type 0) → (List ℕ → PairLists → Type 0) → Type 0
+abbrev pub Shows : Definitions → (SiteModule → Type 0) → (List ℕ → PairLists → Type 0) → Type 0
 Shows dict IsOfKind Has = (m : SiteModule) (s : Situation) → IsOfKind m → (site_module.does m dict Authenticate s).1 ≡ code.Ok → Has s.scope.authenticator s.scope.lists
 
 module _ (policies : Policies) (dict : Definitions) (IsOfKind : SiteModule → Type 0) (Has : List ℕ → PairLists → Type 0) (shows : Shows dict IsOfKind Has) where
@@ -149,9 +149,9 @@ module _ (policies : Policies) (dict : Definitions) (IsOfKind : SiteModule → T
       never_at_once (done_in policies dict id s).1,
     )
 
-    -- An accepted request has it, behind authorize.
-    pub accepted_has : (s : Situation) → s.scope.lists.control ≡ [] → (decided policies dict server s).1 ≡ verdict.Accept → HasIn (authorized policies dict server s).0
-    unfolding decided
+    -- A request that was let in has it, behind authorize.
+    pub accepted_has : (s : Situation) → s.scope.lists.control ≡ [] → (let_in policies dict server s).1 ≡ verdict.Accept → HasIn (authorized policies dict server s).0
+    unfolding let_in
     accepted_has s empty is =
         let done = authorized policies dict server s in
         let begins : Never s.scope.lists = rw empty tt in

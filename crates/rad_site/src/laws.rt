@@ -6,7 +6,8 @@ ghost use Rattle.rad_dict.specs.Definitions.{Definitions};
 ghost use Rattle.mod_base.specs.Situation.{Situation};
 ghost use Rattle.mod_auth.specs.LetsIn.{KnowsThePassword, HasTheDigest};
 ghost use Rattle.rad_site.specs.declared.verdict.Verdict.{Verdict};
-ghost use Rattle.rad_site.specs.Access.{authorized, decided};
+ghost use Rattle.rad_site.specs.Access.{authorized};
+ghost use Rattle.rad_site.specs.Decided.{decided};
 ghost use Rattle.rad_site.specs.Passwords.{ChecksPasswords, ChecksChallenges, ChecksEither};
 ghost use Rattle.rad_site.specs.Policies.{Policies as AnyPolicies};
 
