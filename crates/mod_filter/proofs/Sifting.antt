@@ -159,7 +159,7 @@ equal_to_itself x = rw (is_of-own x, is_itself x.value) refl
 -- ---- the list that is sifted
 
 module _ (keeps : Pair → Bool) where
-  others : Pair → Pair → Bool
+  abbrev others : Pair → Pair → Bool
   others x p = not (is_equal_pair x p)
 
   by_equal : (x p : Pair) (b : Bool) → keeps x ≡ false → keeps p ≡ true → is_equal_pair x p ≡ b → not b ≡ true
@@ -218,11 +218,11 @@ module _ (keeps : Pair → Bool) where
     pub still : Sifted list before new n
 
   pub leaves : (list : ListName) (before now new : PairLists) (n : ℕ) (x : Pair) → Sifted list before now n → slice_get (list_of now list) n ≡ Some x → keeps x ≡ false → new ≡ without_at list n now → IsShorter list before now new n
-  leaves list before now new n x so_far at leaves done =
+  leaves list before now new n x so_far at out done =
       let xs = list_of now list in
       let q = others x in
       let ys = filter q xs in
-      let within : (p : Pair) → keeps p ≡ true → q p ≡ true = λ p stays. by_equal x p (is_equal_pair x p) leaves stays refl in
+      let within : (p : Pair) → keeps p ≡ true → q p ≡ true = λ p stays. by_equal x p (is_equal_pair x p) out stays refl in
       let is : new ≡ with_list now list ys = done ∙ ap (without_pair list now) at in
       let list_is : list_of new list ≡ ys = ap (λ (l : PairLists). list_of l list) is ∙ list_with list now ys in
       let lt : length ys < length xs = shorter keeps q xs n x at (ap not (equal_to_itself x)) in
@@ -242,5 +242,13 @@ module _ (keeps : Pair → Bool) where
         };
       }
     where
-    taken : (n : ℕ) (ys xs : List Pair) → take n ys ≡ take n xs → n ≤ length xs → n ≤ length ys
-    taken n ys xs is le = omega (arith, length-take n ys, length-take n xs, ap length is, le)
+      taken : (n : ℕ) (ys xs : List Pair) → take n ys ≡ take n xs → n ≤ length xs → n ≤ length ys
+      taken n ys xs is le = omega (arith, length-take n ys, length-take n xs, ap length is, le)
+
+  -- the pair of a place leaves, where it doesn't stay
+  pub removed : (list : ListName) (before now new : PairLists) (n : ℕ) (stays : Bool) → stays ≡ option_map_or keeps (slice_get (list_of now list) n) true → stays ≡ false → Sifted list before now n → new ≡ without_at list n now
+      → IsShorter list before now new n
+  removed list before now new n stays is fails so_far done = by_pair (slice_get (list_of now list) n) refl (sym is ∙ fails) where
+    by_pair : (pair : Option Pair) → slice_get (list_of now list) n ≡ pair → option_map_or keeps pair true ≡ false → IsShorter list before now new n
+    by_pair None at none = absurd (cc)
+    by_pair (Some x) at none = leaves list before now new n x so_far at none done

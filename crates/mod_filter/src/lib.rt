@@ -4,6 +4,12 @@
 //! Above it stand the modules of a site, and what a site keeps of a rejected request's reply.
 #![tactic(auto)]
 
+mod attr_filter;
+mod filter;
+mod laws;
+mod rules;
 mod sieve;
 
+pub use attr_filter::AttrFilter;
+pub use laws::filters_never_add_but_by_set;
 pub use sieve::{Sieve, sift};

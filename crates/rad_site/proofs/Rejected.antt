@@ -118,10 +118,10 @@ no_message attr pair false other message is = refl
 
 messages_none : (attr : AttrId) (pairs : List Pair) → same_attr attr reply_message ≡ false → filter (is_of attr) (kept pairs) ≡ []
 messages_none attr [] other = refl
-messages_none attr (pair ∷ pairs) other = by_pair (is_of reply_message pair) refl where
-  by_pair : (b : Bool) → is_of reply_message pair ≡ b → filter (is_of attr) (cond b (pair ∷ kept pairs) (kept pairs)) ≡ []
-  by_pair true is = rw (no_message attr pair (is_of attr pair) other is refl) (messages_none attr pairs other)
-  by_pair false is = messages_none attr pairs other
+messages_none attr (pair ∷ pairs) other = by_pair (is_of reply_message pair) (messages_none attr pairs other) refl where
+  by_pair : (b : Bool) → filter (is_of attr) (kept pairs) ≡ [] → is_of reply_message pair ≡ b → filter (is_of attr) (cond b (pair ∷ kept pairs) (kept pairs)) ≡ []
+  by_pair true more is = rw (no_message attr pair (is_of attr pair) other is refl) more
+  by_pair false more is = more
 
 module _ (policies : Policies) (dict : Definitions) (server : List ℕ) (attr : AttrId) (other : same_attr attr reply_message ≡ false) (never : RejectNeverAdds policies server attr) where
   each_leaf : (id : SectionId) (statements : Option (List Statement)) → reject_of policies server ≡ Some id → statements_of policies.table id ≡ statements

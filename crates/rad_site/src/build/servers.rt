@@ -95,7 +95,6 @@ fn is_later(node: &Node) -> bool
     is_section(b"session", node)
         || is_section(b"preacct", node)
         || is_section(b"accounting", node)
-        || is_section(b"post-auth", node)
 }
 
 /// The servers with the listener of a block of the server of a name.
