@@ -20,6 +20,9 @@ use Rattle.rad_dict.specs.Definitions.{Definitions}
 use Rattle.rad_dict.proofs.Lookups.{same_attr_is}
 use Rattle.mod_base.specs.Situation.{Situation}
 use Rattle.mod_base.proofs.Frames.{filter_within, values_stay}
+use Rattle.unlang_xlat.specs.Texts.{expanded}
+use Rattle.mod_filter.specs.Module.{users_of, key_of}
+use Rattle.mod_filter.proofs.Adding.{none_is_added}
 use Rattle.unlang_tree.specs.declared.statement.Statement.{Statement}
 use Rattle.unlang_tree.specs.declared.update.Line.{Line}
 use Rattle.unlang_code.specs.declared.section_id.SectionId.{SectionId}
@@ -95,6 +98,7 @@ module_none attr (site.Always m) dict kind s free none = none
 module_none attr (site.Files m) dict kind s free none = framed_none attr (site.Files m) dict kind s free none
 module_none attr (site.Pap m) dict kind s free none = framed_none attr (site.Pap m) dict kind s free none
 module_none attr (site.Chap m) dict kind s free none = framed_none attr (site.Chap m) dict kind s free none
+module_none attr (site.Filter m) dict kind s free none = none_is_added attr (users_of m) (expanded s.scope dict (key_of m)) dict kind s.scope.lists free none
 
 call_none : (attr : AttrId) (m : Option SiteModule) (dict : Definitions) (kind : Section) (s : Situation) → call_adds attr m ≡ false → NoneOf attr s.scope.lists → NoneOf attr (module_done site_module dict kind m s).scope.lists
 call_none attr None dict kind s free none = none

@@ -8,6 +8,7 @@ use Rattle.rad_value.specs.declared.values.Pair.{Pair}
 use Rattle.rad_value.specs.PairLists.{with_list}
 use Rattle.mod_base.specs.Situation.{Situation}
 use Rattle.mod_lists.specs.Done.{with_lists}
+use Rattle.mod_filter.specs.Module.{users_of, filter_writes}
 use Rattle.unlang_tree.specs.declared.statement.Statement.{Statement}
 use Rattle.unlang_tree.specs.declared.update.Line.{Line}
 use Rattle.unlang_code.specs.declared.section_id.SectionId.{SectionId}
@@ -20,12 +21,13 @@ use Rattle.rad_site.specs.SiteModules.{edits_of}
 use Rattle.rad_site.specs.Policies.{Policies}
 use Rattle.rad_site.specs.Decided.{reject_of}
 
--- A module can add pairs of an attribute to the reply list.
+-- A module can add pairs of an attribute to the reply list: a filter by an item `:=` alone.
 abbrev pub module_adds : AttrId → SiteModule → Bool
 module_adds attr (site.Always m) = false
 module_adds attr (site.Files m) = edits_of (site.Files m) Reply attr
 module_adds attr (site.Pap m) = edits_of (site.Pap m) Reply attr
 module_adds attr (site.Chap m) = edits_of (site.Chap m) Reply attr
+module_adds attr (site.Filter m) = filter_writes (users_of m) attr
 
 -- So can a call of it.
 abbrev pub call_adds : AttrId → Option SiteModule → Bool
