@@ -1,12 +1,15 @@
 -- The steps of a turn, put together.
-use Rattle.std.proofs.Common.{◌≡◌, ℕ, true, false, not, List, [], ◌∷◌, ◌++◌, length, get_or, Option, Some, None, sym, refl, ap, ◌∙◌, subst, arith, true≢false}
+use Rattle.std.proofs.Common.{◌≡◌, ◌==◌, ℕ, ⊎_elim, true, false, not, List, [], ◌∷◌, ◌++◌, length, get_or, Option, Some, None, sym, refl, ap, ◌∙◌, subst, arith, true≢false}
 use Rattle.atomic_table.specs.Table.{Me}
 use Rattle.rad_turn.specs.declared.view.View.{View}
 use Rattle.rad_turn.specs.Seats.{is_idle, view_of, name_of, out_of}
-use Rattle.rad_turn.specs.Views.{Stood, IsSameSeat}
+use Rattle.rad_turn.specs.Names.{is_out}
+use Rattle.rad_turn.specs.Views.{entries_of, ActsAs, Stood, IsSameSeat}
 use Rattle.rad_turn.specs.Told.{Holds, HasValue, Changes, Releases, gave_as}
 use Rattle.rad_turn.specs.Turned.{MayFollow, Turned}
-use Rattle.rad_turn.proofs.Lists.{entries_of_own, and_right}
+use Rattle.std.proofs.lemmas.List.{append-nil}
+use Rattle.std.proofs.lemmas.List.Elements.{filter-append}
+use Rattle.rad_turn.proofs.Lists.{entries_of_own, none_free, and_right, not_on}
 use Rattle.rad_turn.proofs.Sitting.{some_is}
 
 pub empty_is : {A : Type 0} (xs : List A) → length xs ≡ 0 → xs ≡ []
@@ -18,6 +21,10 @@ module _ {E O B : Type 0} where
   pub has_view : (k : Option (View E O B)) (h : is_idle k ≡ true) → k ≡ Some (view_of k h)
   has_view None h = absurd (true≢false (sym h))
   has_view (Some v) h = refl
+
+  pub still_is : (k : Option (View E O B)) (h : is_idle k ≡ true) → (view_of k h).joins ≡ false
+  still_is None h = absurd (true≢false (sym h))
+  still_is (Some v) h = not_on v.joins (and_right (not v.holds) (not v.joins) h)
 
   pub name_is : (k : Option (View E O B)) (h : is_idle k ≡ true) → (view_of k h).name ≡ name_of k
   name_is None h = absurd (true≢false (sym h))
@@ -55,7 +62,7 @@ value_is {S} value before c e e' = ap (λ (l : List (ℕ × S)). (get_or l 0 (0,
 
 module _ {S M R E O B : Type 0} (stands : S → List E → Type 0) (origin : S → O) (by : E → ℕ) (worker : M → ℕ) (may : M → List E → Type 0) (does : M → S → R → S → M → Type 0) (entry : M → S → R → S → M → E) where
   module _ (v : View E O B) (m m' : Me S (Option (View E O B))) (old new was : M) (before : S) (reply : R) (after : S) (has : HasValue stands origin by v [] m)
-      (changes : Changes stands origin by worker may does entry m m' old new was before reply after) (named : worker old ≡ v.name) (follow : MayFollow stands origin by v (may old)) where
+      (changes : Changes stands origin by worker may does entry m m' old new was before reply after) (named : ActsAs v (worker old)) (still : v.joins ≡ false) (follow : MayFollow stands origin by v (may old)) where
     log : List E
     log = has.0
 
@@ -71,6 +78,17 @@ module _ {S M R E O B : Type 0} (stands : S → List E → Type 0) (origin : S �
     knows : m'.0 ≡ Some (record v { seen = has.0; holds = true })
     knows = changes.view ∙ ap (λ (k : Me S (Option (View E O B))). k.0) has.2
 
+    acts : ActsAs v (by (entry old before reply after new))
+    acts = subst (λ (n : ℕ). ActsAs v n) (sym changes.named) named
+
+    -- no entry of the name was new
+    unseen : entries_of by (by (entry old before reply after new)) has.0 ≡ entries_of by (by (entry old before reply after new)) v.seen
+    unseen = let name = by (entry old before reply after new) in ⊎_elim
+        (λ (own : name ≡ v.name). ap (λ (k : ℕ). entries_of by k has.0) own ∙ has.3.mine ∙ ap (λ (k : ℕ). entries_of by k v.seen) (sym own))
+        (λ (first : (v.name ≡ 0) × (is_out name v.out ≡ false)). ap (entries_of by name) has.3.is ∙ filter-append (λ e. by e == name) v.seen has.3.between
+        ∙ ap (λ l. entries_of by name v.seen ++ l) (none_free by v.out name first.1 has.3.between (has.3.others first.0)) ∙ append-nil (entries_of by name v.seen))
+        acts
+
     -- the seat may give the value back
     pub releases : Releases stands origin by (entry was before reply after new ∷ []) m' (entry was before reply after new) after
     releases = subst (λ (x : M). Releases stands origin by (entry x before reply after new ∷ []) m' (entry x before reply after new) after) (sym changes.same) (record {
@@ -79,7 +97,8 @@ module _ {S M R E O B : Type 0} (stands : S → List E → Type 0) (origin : S �
       knows = knows;
       holds = refl;
       held = changes.holds;
-      named = changes.named ∙ named;
+      named = acts;
+      still = still;
       stood = record { state = stands_now.state; whence = stands_now.whence };
     })
 
@@ -99,7 +118,7 @@ module _ {S M R E O B : Type 0} (stands : S → List E → Type 0) (origin : S �
           stood = stood;
           done = changes.done;
           seen = refl;
-          mine = entries_of_own by v.name has.0 e (changes.named ∙ named) ∙ ap (λ (l : List E). l ++ e ∷ []) has.3.mine;
+          mine = entries_of_own by (by e) has.0 e refl ∙ ap (λ (l : List E). l ++ e ∷ []) unseen;
           state = stands_now;
         }
 

@@ -73,6 +73,13 @@ none_out by out (e ∷ es) all is = absurd (true≢false (sym (all 0 e (omega ar
 pub alone_sees : {E : Type 0} (by : E → ℕ) (out : List ℕ) (seen between log : List E) → log ≡ seen ++ between → All (λ e. is_out (by e) out ≡ true) between → out ≡ [] → log ≡ seen
 alone_sees by out seen between log is all none = is ∙ (ap (λ l. seen ++ l) (none_out by out between all none) ∙ append-nil seen)
 
+-- where each entry is of a name that is out, there is none of one that isn't
+pub none_free : {E : Type 0} (by : E → ℕ) (out : List ℕ) (k : ℕ) → is_out k out ≡ false → (es : List E) → All (λ e. is_out (by e) out ≡ true) es → entries_of by k es ≡ []
+none_free by out k free [] all = refl
+none_free by out k free (e ∷ es) all =
+    let other : by e ≢ k = λ is. true≢false (sym (all 0 e (omega arith)) ∙ (ap (λ n. is_out n out) is ∙ free)) in
+    ap (λ b. cond b (e ∷ entries_of by k es) (entries_of by k es)) (ne_eqb (by e) k other) ∙ none_free by out k free es (λ i d l. all (suc i) d (omega arith))
+
 -- no name that is at most `low` is among those that rise from above it
 pub low_not_out : (k low : ℕ) (out : List ℕ) → k ≤ low → is_rising low out ≡ true → is_out k out ≡ false
 low_not_out k low [] le up = refl

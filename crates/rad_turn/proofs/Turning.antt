@@ -13,11 +13,11 @@ use Rattle.atomic_table.proofs.Lists.{set_again, exchanged}
 use Rattle.rad_turn.specs.declared.view.View.{View}
 use Rattle.rad_turn.specs.Names.{is_out}
 use Rattle.rad_turn.specs.Seats.{is_idle}
-use Rattle.rad_turn.specs.Views.{entries_of, Stood}
-use Rattle.rad_turn.specs.Kept.{Sits, Fits, IsFree, IsTaken, Kept}
+use Rattle.rad_turn.specs.Views.{entries_of, ActsAs, Stood}
+use Rattle.rad_turn.specs.Kept.{Sits, Fits, Joining, IsFree, IsTaken, Kept}
 use Rattle.rad_turn.specs.Told.{SeesEnd, Ends, looked, HasValue, Holds, took, gave_as, gave, Releases}
 use Rattle.rad_turn.proofs.Lists.{not_true, entries_of_behind}
-use Rattle.rad_turn.proofs.Sitting.{at_idle, set_at, some_is, one_seat, each_set, apart_set, joining_set, learns, fits_whole}
+use Rattle.rad_turn.proofs.Sitting.{at_idle, set_at, some_is, one_seat, each_set, apart_set, joining_set, first_place, learns, fits_whole}
 
 -- a word that was read alone
 word_is : (words : List ℕ) (n : ℕ) → words ≡ n ∷ [] → get_or words 0 0 ≡ n
@@ -142,9 +142,9 @@ module _ {S E O B : Type 0} (stands : S → List E → Type 0) (origin : S → O
 
   -- the value is given back, and the history has one entry more
   lays : (s : State S (Option (View E O B))) (r : Kept stands origin by s) (taken : IsTaken r.log s) (id : ℕ) (v : View E O B) (y : S) (e : E) (new : ℕ) → Sits s.views id v → v.seen ≡ r.log → id ≡ taken.holder
-      → Stood stands origin v.origin (v.seen ++ e ∷ []) y → by e ≡ v.name → new ≡ 2 * length r.log + 2
+      → Stood stands origin v.origin (v.seen ++ e ∷ []) y → ActsAs v (by e) → v.joins ≡ false → new ≡ 2 * length r.log + 2
       → Kept stands origin by (stepped s 0 new id ((0, y) ∷ []) (Some (record v { seen = v.seen ++ e ∷ []; holds = false })) gives)
-  lays s r taken id v y e new at whole held stood own up =
+  lays s r taken id v y e new at whole held stood own still up =
       let w : View E O B = record v { seen = v.seen ++ e ∷ []; holds = false } in let f = r.each id v at in let log : List E = r.log ++ e ∷ [] in
       let same : v.seen ++ e ∷ [] ≡ log = ap (λ (l : List E). l ++ e ∷ []) whole in
       let more : length log ≡ length r.log + 1 = length-append r.log (e ∷ []) in
@@ -166,7 +166,7 @@ module _ {S E O B : Type 0} (stands : S → List E → Type 0) (origin : S → O
             })
             (λ i u ne there. later s r id v e at own i u ne there);
         apart = apart_set s.views id v w at refl r.apart;
-        joining = joining_set by r.log log s.views id v w at refl refl refl refl (λ k ne. entries_of_behind by k r.log e (λ is. ne (sym is ∙ own))) (λ told p. prefix_longer told r.log e p) r.joining;
+        joining = joins s r id v w e at refl refl refl refl own still;
         desk = inl (record {
           word = word_set s.words (2 * length r.log + 1) new taken.word ∙ ap (λ (n : ℕ). n ∷ []) (omega arith);
           value = y;
@@ -176,24 +176,54 @@ module _ {S E O B : Type 0} (stands : S → List E → Type 0) (origin : S → O
         });
       }
     where
-      later : (s : State S (Option (View E O B))) (r : Kept stands origin by s) (id : ℕ) (v : View E O B) (e : E) → Sits s.views id v → by e ≡ v.name → (i : ℕ) (u : View E O B) → i ≢ id → Sits s.views i u
+      -- a seat that acts under another name than its own is the first, and that name isn't out
+      first_acts : (s : State S (Option (View E O B))) (r : Kept stands origin by s) (id : ℕ) (v : View E O B) (n : ℕ) → Sits s.views id v → (v.name ≡ 0) × (is_out n v.out ≡ false) → (id ≡ 0) × (is_out n r.out ≡ false)
+      first_acts s r id v n at acts =
+          let here = first_place by r.log r.out r.from r.beginning id v r.rising (r.each id v at) acts.0 in
+          (here, ap (is_out n) (sym ((r.each id v at).first here).1) ∙ acts.1)
+
+      -- no other seat has the name
+      other_name : (s : State S (Option (View E O B))) (r : Kept stands origin by s) (id : ℕ) (v : View E O B) (n : ℕ) → Sits s.views id v → ActsAs v n → (i : ℕ) (u : View E O B) → i ≢ id → Sits s.views i u → n ≢ u.name
+      other_name s r id v n at own i u ne there = ⊎_elim
+          (λ (own : n ≡ v.name). λ is. ne (r.apart i id u v there at (sym is ∙ own)))
+          (λ (acts : (v.name ≡ 0) × (is_out n v.out ≡ false)). let first = first_acts s r id v n at acts in
+          λ is. true≢false (sym ((r.each i u there).other (λ z. ne (z ∙ sym first.0))) ∙ (ap (λ (m : ℕ). is_out m r.out) (sym is) ∙ first.1)))
+          own
+
+      -- a name that isn't out is another one, where the first seat is another one
+      free_name : (s : State S (Option (View E O B))) (r : Kept stands origin by s) (id : ℕ) (v : View E O B) (n : ℕ) → Sits s.views id v → ActsAs v n → (i : ℕ) → i ≢ id → i ≡ 0 → (k : ℕ) → is_out k r.out ≡ false → n ≢ k
+      free_name s r id v n at own i ne z k free = ⊎_elim
+          (λ (own : n ≡ v.name). λ is. true≢false (sym ((r.each id v at).other (λ o. ne (z ∙ sym o))) ∙ (ap (λ (m : ℕ). is_out m r.out) (sym own ∙ is) ∙ free)))
+          (λ (acts : (v.name ≡ 0) × (is_out n v.out ≡ false)). absurd (ne (z ∙ sym (first_acts s r id v n at acts).0)))
+          own
+
+      -- the first seat takes in another one as it did, and a seat that acts takes in none
+      joins : (s : State S (Option (View E O B))) (r : Kept stands origin by s) (id : ℕ) (v w : View E O B) (e : E) → Sits s.views id v → w.name ≡ v.name → w.joins ≡ v.joins → w.guest ≡ v.guest → w.told ≡ v.told → ActsAs v (by e) → v.joins ≡ false
+          → (u : View E O B) → Sits (set s.views id (Some w)) 0 u → u.joins ≡ true → Joining by (r.log ++ e ∷ []) (set s.views id (Some w)) u
+      joins s r id v w e at named flags guests tells own still = ⊎_elim
+          (λ (own : by e ≡ v.name). joining_set by r.log (r.log ++ e ∷ []) s.views id v w at named flags guests tells (λ k ne. entries_of_behind by k r.log e (λ is. ne (sym is ∙ own))) (λ told p. prefix_longer told r.log e p) r.joining)
+          (λ (acts : (v.name ≡ 0) × (is_out (by e) v.out ≡ false)). λ u there on.
+          absurd (each_set (λ i u. i ≡ 0 → u.joins ≡ true → ⊥) s.views id w (λ _ on. true≢false (sym on ∙ (flags ∙ still))) (λ i u ne _. λ z _. ne (z ∙ sym (first_acts s r id v (by e) at acts).0)) 0 u there refl on))
+          own
+
+      later : (s : State S (Option (View E O B))) (r : Kept stands origin by s) (id : ℕ) (v : View E O B) (e : E) → Sits s.views id v → ActsAs v (by e) → (i : ℕ) (u : View E O B) → i ≢ id → Sits s.views i u
           → Fits by (r.log ++ e ∷ []) r.out r.from r.beginning i u
       later s r id v e at own i u ne there = let f = r.each i u there in record {
         seen = prefix_longer u.seen r.log e f.seen;
-        mine = entries_of_behind by u.name r.log e (λ is. ne (r.apart i id u v there at (sym is ∙ own))) ∙ f.mine;
+        mine = entries_of_behind by u.name r.log e (other_name s r id v (by e) at own i u ne there) ∙ f.mine;
         origin = f.origin;
         beginning = f.beginning;
         first = λ z. let first = f.first z in (
           first.0,
           first.1,
-          λ k free. entries_of_behind by k r.log e (λ is. true≢false (sym ((r.each id v at).other (λ o. ne (z ∙ sym o))) ∙ (ap (λ (n : ℕ). is_out n r.out) (sym own ∙ is) ∙ free))) ∙ first.2 k free,
+          λ k free. entries_of_behind by k r.log e (free_name s r id v (by e) at own i ne z k free) ∙ first.2 k free,
         );
         other = f.other;
       }
 
-  pub gives_back : (slots id : ℕ) (v : View E O B) (y : S) (e : E) → v.holds ≡ true → Stood stands origin v.origin (v.seen ++ e ∷ []) y → by e ≡ v.name
+  pub gives_back : (slots id : ℕ) (v : View E O B) (y : S) (e : E) → v.holds ≡ true → Stood stands origin v.origin (v.seen ++ e ∷ []) y → ActsAs v (by e) → v.joins ≡ false
       → Allows (Kept stands origin by) slots id (Some v, (0, y) ∷ []) 0 (λ n. (n + 1) % 2 ^ 64) (gave (e ∷ []) (step slots 0 1 0 none) (Some v, (0, y) ∷ []))
-  gives_back slots id v y e on stood own s r wide at small = ⊎_elim
+  gives_back slots id v y e on stood own still s r wide at small = ⊎_elim
       (λ (free : IsFree stands origin r.log r.from s). absurd (true≢false (sym on ∙ free.idle id v at)))
       (λ (taken : IsTaken r.log s).
       let held : id ≡ taken.holder = taken.alone id v at on in
@@ -203,7 +233,7 @@ module _ {S E O B : Type 0} (stands : S → List E → Type 0) (origin : S → O
         Some (record v { seen = v.seen ++ e ∷ []; holds = false }),
         gives,
         tt,
-        lays s r taken id v y e ((get_or s.words 0 0 + 1) % 2 ^ 64) at (ap (λ (u : View E O B). u.seen) same ∙ taken.whole) held stood own (omega arith),
+        lays s r taken id v y e ((get_or s.words 0 0 + 1) % 2 ^ 64) at (ap (λ (u : View E O B). u.seen) same ∙ taken.whole) held stood own still (omega arith),
         λ v' is _. subst (λ (u : View E O B). gave_as {S = S} (e ∷ []) u (Some (record v { seen = v.seen ++ e ∷ []; holds = false }), [])) (some_is v v' is) refl,
       ))
       r.desk
@@ -212,4 +242,4 @@ module _ {S E O B : Type 0} (stands : S → List E → Type 0) (origin : S → O
       → Allows (Kept stands origin by) slots id me 0 (λ n. (n + 1) % 2 ^ 64) (gave entries (step slots 0 1 0 none) me)
   gives_made slots id me entries e y r =
       subst (λ (x : Option (View E O B) × List (ℕ × S) × List E). Allows (Kept stands origin by) slots id (x.0, x.1) 0 (λ n. (n + 1) % 2 ^ 64) (gave x.2 (step slots 0 1 0 none) (x.0, x.1)))
-      (λ i. (sym r.knows i, sym r.held i, sym r.made i)) (gives_back slots id r.view y e r.holds r.stood r.named)
+      (λ i. (sym r.knows i, sym r.held i, sym r.made i)) (gives_back slots id r.view y e r.holds r.stood r.named r.still)

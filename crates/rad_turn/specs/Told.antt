@@ -4,7 +4,7 @@ use Rattle.atomic_table.specs.Table.{Me, Step}
 use Rattle.rad_turn.specs.declared.view.View.{View}
 use mathlib.Core.List.{IsPrefix}
 use Rattle.rad_turn.specs.Names.{least_free, with_name, without_name}
-use Rattle.rad_turn.specs.Views.{entries_of, Learns, Stood}
+use Rattle.rad_turn.specs.Views.{entries_of, ActsAs, Learns, Stood}
 
 module _ {S E O B : Type 0} (stands : S → List E → Type 0) (origin : S → O) (by : E → ℕ) where
   -- a seat with this view has seen the whole history: it has 2^62 entries
@@ -64,7 +64,8 @@ pub record Releases {S E O B : Type 0} (stands : S → List E → Type 0) (origi
   pub knows : m.0 ≡ Some view
   pub holds : view.holds ≡ true
   pub held : m.1 ≡ (0, value) ∷ []
-  pub named : by entry ≡ view.name
+  pub named : ActsAs view (by entry)
+  pub still : view.joins ≡ false
   pub stood : Stood stands origin view.origin (view.seen ++ entry ∷ []) value
 
 -- a seat that splits gains the least name that isn't out, and the new seat has seen as much

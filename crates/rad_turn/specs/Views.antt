@@ -1,5 +1,5 @@
 -- What a seat knows, and what a call adds to it.
-use Rattle.std.specs.Prelude.{◌≡◌, ℕ, ◌==◌, true, false, List, [], ◌++◌, filter, All}
+use Rattle.std.specs.Prelude.{◌≡◌, ◌⊎◌, ℕ, ◌==◌, true, false, List, [], ◌++◌, filter, All}
 use Rattle.rad_turn.specs.declared.view.View.{View}
 use Rattle.rad_turn.specs.Names.{is_out}
 
@@ -17,6 +17,11 @@ pub record IsSameSeat {E O B : Type 0} (v w : View E O B) : Type 0 where
   pub out : w.out ≡ v.out
   pub origin : w.origin ≡ v.origin
   pub beginning : w.beginning ≡ v.beginning
+
+-- The name under which a seat takes a turn: its own or, for the first seat, any that isn't out. So one thread may do the work of several
+-- workers with one seat.
+abbrev pub ActsAs : {E O B : Type 0} → View E O B → ℕ → Type 0
+ActsAs v name = (name ≡ v.name) ⊎ ((v.name ≡ 0) × (is_out name v.out ≡ false))
 
 -- What is seen begins with what was seen, and has no further entry of the seat's name.
 -- What the first seat newly sees is of names that are out; where none is out it had seen all

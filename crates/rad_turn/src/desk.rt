@@ -101,11 +101,12 @@ impl<S: Stands> Desk<S> {
 
 impl<S: Stands> Desk<S> {
     ghost use Rattle.std.specs.Prelude.{◌≡◌, IfOk, IfErr, Err};
-    ghost use Rattle.rad_turn.specs.Views.{IsSameSeat};
+    ghost use Rattle.rad_turn.specs.Views.{ActsAs, IsSameSeat};
     ghost use Rattle.rad_turn.specs.Turned.{MayFollow, Turned, Ended};
     ghost use Rattle.rad_turn.specs.Sides.{view, IsOf};
 
-    /// Waits for the desk, and applies the step to its value. Where 2^62 turns were taken it doesn't.
+    /// Waits for the desk, and applies the step to its value, under the seat's own name, or, by the first seat, under one that
+    /// isn't out. Where 2^62 turns were taken it doesn't.
     pub fn turn<R: Wait, M: Move<S>>(
         &self,
         rt: &R,
@@ -113,7 +114,7 @@ impl<S: Stands> Desk<S> {
         step: &mut M,
     ) -> Result<M::Reply, Worn>
         requires own { IsOf self.now seat.old }
-        requires worker { M.worker step.old ≡ (view seat.old).name }
+        requires worker { ActsAs (view seat.old) (M.worker step.old) }
         requires may { MayFollow S.stands S.origin S.by (view seat.old) (M.may step.old) }
         ensures own { IsOf self.now seat.new }
         ensures same { IsSameSeat (view seat.old) (view seat.new) }
