@@ -1,8 +1,8 @@
 -- A core behind a desk, over one turn.
-use Rattle.std.proofs.Common.{ℕ, ◌≡◌, ◌+◌, ◌^◌, List, [], ◌∷◌, ◌++◌, Option, Some, None, Result, Ok, Err, refl, ap, sym, ◌∙◌, subst, length, length-append}
+use Rattle.std.proofs.Common.{ℕ, ◌≡◌, ◌+◌, ◌^◌, List, [], ◌∷◌, ◌++◌, Option, Some, None, Result, Ok, Err, inl, refl, ap, sym, ◌∙◌, subst, length, length-append}
 use Rattle.rad_turn.specs.declared.view.View.{View}
 use Rattle.rad_turn.specs.Turned.{Turned}
-use Rattle.rad_turn.specs.Views.{entries_of}
+use Rattle.rad_turn.specs.Views.{entries_of, ActsAs}
 use Rattle.rad_policy.specs.declared.arrival.Arrived.{Arrived}
 use Rattle.rad_policy.specs.Policy.{Meaning}
 use Rattle.rad_core.specs.declared.installed.Installed.{Installed}
@@ -37,6 +37,10 @@ installed_entries state (Err fault) (installed.Generation number) = refl
 installed_entries state (Err fault) (installed.ListenerGone name) = refl
 installed_entries state (Err fault) (installed.Refused told) = refl
 
+-- a seat may act under its own name
+pub acts_own : {E O B : Type 0} (v : View E O B) (name : ℕ) → name ≡ v.name → ActsAs v name
+acts_own v name is = inl is
+
 module _ {P F : Type 0} (meaning : Meaning P F) where
   -- each entry counts itself
   pub one_more : (state : ServerState P) (entry : Entry P F) → (after meaning state entry).entries ≡ state.entries + 1
@@ -65,7 +69,7 @@ module _ {P F : Type 0} (meaning : Meaning P F) where
       learns = turned.learns;
       short = turned.short;
       seen = turned.seen ∙ ap (λ (e : Entry P F). turned.log ++ e ∷ []) (is turned.before turned.after);
-      mine = turned.mine ∙ ap (λ (e : Entry P F). entries_of worker_of v.name v.seen ++ e ∷ []) (is turned.before turned.after);
+      mine = subst (λ (e : Entry P F). entries_of worker_of (worker_of e) w.seen ≡ entries_of worker_of (worker_of e) v.seen ++ e ∷ []) (is turned.before turned.after) turned.mine;
       legal = turned.state.state.legal;
       may = subst (λ (s : ServerState P). May meaning s entry) turned.stood.state.state_is (may turned.before turned.after turned.done);
     }

@@ -20,13 +20,13 @@ abbrev pub FindsOnly : {P F O B : Type 0} → Meaning P F → View (Entry P F) O
 FindsOnly {P} {F} meaning v IsSo = (log : List (Entry P F)) → IsLegal meaning opening log → Learns worker_of v log → length log < 2 ^ 62 → IsSo (run meaning opening log)
 
 -- A turn was had. What its seat has now seen is legal, begins with all that it had seen and ends with this entry, which
--- is the one entry more of the seat's name.
+-- is the one entry more of its worker.
 pub record TurnAdds {P F O B : Type 0} (meaning : Meaning P F) (v w : View (Entry P F) O B) (entry : Entry P F) : Type 0 where
   pub log : List (Entry P F)
   pub learns : Learns worker_of v log
   pub short : length log < 2 ^ 62
   pub seen : w.seen ≡ log ++ entry ∷ []
-  pub mine : entries_of worker_of v.name w.seen ≡ entries_of worker_of v.name v.seen ++ entry ∷ []
+  pub mine : entries_of worker_of (worker_of entry) w.seen ≡ entries_of worker_of (worker_of entry) v.seen ++ entry ∷ []
   pub legal : IsLegal meaning opening w.seen
   pub may : May meaning (run meaning opening log) entry
 

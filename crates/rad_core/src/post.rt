@@ -1,7 +1,7 @@
 //! The desk with a core behind it.
 ghost use Rattle.std.specs.Prelude.{◌≡◌, ◌≢◌, ◌-◌, ◌^◌, ◌<◌, [], length, IfOk, IfErr, OnErr, IsSome};
 ghost use Rattle.rad_turn.specs.Sides.{view, IsOf};
-ghost use Rattle.rad_turn.specs.Views.{beginner, IsSameSeat, Stood};
+ghost use Rattle.rad_turn.specs.Views.{beginner, ActsAs, IsSameSeat, Stood};
 ghost use Rattle.rad_turn.specs.Seated.{Parts, Joins};
 ghost use Rattle.rad_outside.specs.declared.listen.ListenKind.TheVariants.{Auth};
 ghost use Rattle.rad_policy.specs.Seen.{arrived_of, ending_seen, FitsDatagram};
@@ -23,8 +23,8 @@ use rad_turn::{CloseFault, Desk, Seat, Worn};
 use std::alloc::Global;
 use std::sync::{Arc, Wait};
 
-/// A desk with a core behind it: each of its calls from `start` to `stop` is one turn, whose step is the core's call of
-/// that name, under the seat's name.
+/// A desk with a core behind it: each of its calls from `start` to `stop_as` is one turn, whose step is the core's call of
+/// that name, under the seat's name or the worker's that is given.
 #[derive(Drop)]
 pub struct Post<P: Policy, L> {
     desk: Desk<Core<P, L>>,
@@ -46,7 +46,7 @@ impl<P: Policy, L: Shelf> Post<P, L> {
         }
     }
 
-    /// A datagram of an auth listener came in. Every answer but that of a repeat leaves the buffer as it was.
+    /// A datagram of an auth listener came in, to the seat's own worker or, by the first seat, to one whose name isn't out. Every answer but that of a repeat leaves the buffer as it was.
     pub fn start<R: Wait>(
         &self,
         rt: &R,
@@ -55,7 +55,7 @@ impl<P: Policy, L: Shelf> Post<P, L> {
         reply: &mut [u8; 4096],
     ) -> Result<Started<P>, Worn>
         requires own { IsOf self.now.desk seat.old }
-        requires worker { arrival.now.worker ≡ (view seat.old).name }
+        requires worker { ActsAs (view seat.old) arrival.now.worker }
         requires auth { arrival.now.kind ≡ Auth }
         requires finds { FindsOnly P.meaning (view seat.old) (λ state. IsSome state.present) }
         ensures own { IsOf self.now.desk seat.new }
@@ -75,7 +75,35 @@ impl<P: Policy, L: Shelf> Post<P, L> {
         answer
     }
 
+    /// A worker has ended the request of a ticket: the seat's own or, by the first seat, one whose name isn't out. After `Worn`
+    /// the ticket is given up.
+    pub fn finish_as<R: Wait>(
+        &self,
+        rt: &R,
+        seat: &mut Seat<Core<P, L>>,
+        worker: u32,
+        ticket: Ticket<P>,
+        outcome: Outcome,
+    ) -> Result<(), Worn>
+        requires own { IsOf self.now.desk seat.old }
+        requires acts { ActsAs (view seat.old) worker }
+        requires fits { FitsDatagram outcome }
+        requires finds { FindsOnly P.meaning (view seat.old) (λ state. IsHeld P.meaning state ticket worker (ending_seen outcome)) }
+        ensures own { IsOf self.now.desk seat.new }
+        ensures same { IsSameSeat (view seat.old) (view seat.new) }
+        ensures had { IfOk result (λ _. TurnAdds P.meaning (view seat.old) (view seat.new) (Finish worker ticket.place (ending_seen outcome))) }
+        ensures worn { IfErr result (λ worn. IsWorn P.meaning (view seat.old) (view seat.new) worn.count) }
+    {
+        let mut step = FinishStep {
+            worker,
+            ticket,
+            outcome,
+        };
+        self.desk.turn(rt, seat, &mut step)
+    }
+
     /// The seat's worker has ended the request of a ticket. After `Worn` the ticket is given up.
+    #[tactic(auto, using(crate::proofs::Behind::acts_own))]
     pub fn finish<R: Wait>(
         &self,
         rt: &R,
@@ -91,16 +119,13 @@ impl<P: Policy, L: Shelf> Post<P, L> {
         ensures had { IfOk result (λ _. TurnAdds P.meaning (view seat.old) (view seat.new) (Finish (view seat.old).name ticket.place (ending_seen outcome))) }
         ensures worn { IfErr result (λ worn. IsWorn P.meaning (view seat.old) (view seat.new) worn.count) }
     {
-        let mut step = FinishStep {
-            worker: seat.name(),
-            ticket,
-            outcome,
-        };
-        self.desk.turn(rt, seat, &mut step)
+        let worker = seat.name();
+        self.finish_as(rt, seat, worker, ticket, outcome)
     }
 
     /// Makes a loaded generation the present one, where it has a server for each listener. After `Worn` the load is
     /// given up.
+    #[tactic(auto, using(crate::proofs::Behind::acts_own))]
     pub fn install<R: Wait>(
         &self,
         rt: &R,
@@ -122,7 +147,26 @@ impl<P: Policy, L: Shelf> Post<P, L> {
         self.desk.turn(rt, seat, &mut step)
     }
 
+    /// A worker looks at the server: what its state is now. It is the seat's own or, by the first seat, one whose name isn't out.
+    pub fn look_as<R: Wait>(
+        &self,
+        rt: &R,
+        seat: &mut Seat<Core<P, L>>,
+        worker: u32,
+    ) -> Result<Seen, Worn>
+        requires own { IsOf self.now.desk seat.old }
+        requires acts { ActsAs (view seat.old) worker }
+        ensures own { IsOf self.now.desk seat.new }
+        ensures same { IsSameSeat (view seat.old) (view seat.new) }
+        ensures had { IfOk result (λ seen. TurnAdds P.meaning (view seat.old) (view seat.new) (Look worker seen)) }
+        ensures worn { IfErr result (λ worn. IsWorn P.meaning (view seat.old) (view seat.new) worn.count) }
+    {
+        let mut step = LookStep { worker };
+        self.desk.turn(rt, seat, &mut step)
+    }
+
     /// The seat's worker looks at the server: what its state is now.
+    #[tactic(auto, using(crate::proofs::Behind::acts_own))]
     pub fn look<R: Wait>(&self, rt: &R, seat: &mut Seat<Core<P, L>>) -> Result<Seen, Worn>
         requires own { IsOf self.now.desk seat.old }
         ensures own { IsOf self.now.desk seat.new }
@@ -130,13 +174,31 @@ impl<P: Policy, L: Shelf> Post<P, L> {
         ensures had { IfOk result (λ seen. TurnAdds P.meaning (view seat.old) (view seat.new) (Look (view seat.old).name seen)) }
         ensures worn { IfErr result (λ worn. IsWorn P.meaning (view seat.old) (view seat.new) worn.count) }
     {
-        let mut step = LookStep {
-            worker: seat.name(),
-        };
+        let worker = seat.name();
+        self.look_as(rt, seat, worker)
+    }
+
+    /// A worker stops the server: each one that looks from now on sees it. It is the seat's own or, by the first seat, one whose
+    /// name isn't out.
+    pub fn stop_as<R: Wait>(
+        &self,
+        rt: &R,
+        seat: &mut Seat<Core<P, L>>,
+        worker: u32,
+    ) -> Result<(), Worn>
+        requires own { IsOf self.now.desk seat.old }
+        requires acts { ActsAs (view seat.old) worker }
+        ensures own { IsOf self.now.desk seat.new }
+        ensures same { IsSameSeat (view seat.old) (view seat.new) }
+        ensures had { IfOk result (λ _. TurnAdds P.meaning (view seat.old) (view seat.new) (Stop worker)) }
+        ensures worn { IfErr result (λ worn. IsWorn P.meaning (view seat.old) (view seat.new) worn.count) }
+    {
+        let mut step = StopStep { worker };
         self.desk.turn(rt, seat, &mut step)
     }
 
     /// The seat's worker stops the server: each worker that looks from now on sees it.
+    #[tactic(auto, using(crate::proofs::Behind::acts_own))]
     pub fn stop<R: Wait>(&self, rt: &R, seat: &mut Seat<Core<P, L>>) -> Result<(), Worn>
         requires own { IsOf self.now.desk seat.old }
         ensures own { IsOf self.now.desk seat.new }
@@ -144,10 +206,8 @@ impl<P: Policy, L: Shelf> Post<P, L> {
         ensures had { IfOk result (λ _. TurnAdds P.meaning (view seat.old) (view seat.new) (Stop (view seat.old).name)) }
         ensures worn { IfErr result (λ worn. IsWorn P.meaning (view seat.old) (view seat.new) worn.count) }
     {
-        let mut step = StopStep {
-            worker: seat.name(),
-        };
-        self.desk.turn(rt, seat, &mut step)
+        let worker = seat.name();
+        self.stop_as(rt, seat, worker)
     }
 
     /// A new seat beside the first one, with the least positive name that isn't out. It has seen as much.

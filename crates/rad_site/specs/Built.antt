@@ -4,6 +4,7 @@ use Rattle.std.specs.Prelude.{ℕ, Bool, [], ◌∷◌, ◌++◌, ◌||◌, List
 use Rattle.std.specs.Option.{is_some}
 use Rattle.std.specs.List.{find}
 use Rattle.rad_outside.specs.declared.files.Place.{Place}
+use Rattle.rad_outside.specs.declared.listen.Listen.{Listen}
 use Rattle.rad_outside.specs.Files.{octets_at}
 use Rattle.rad_dict.specs.Definitions.{Definitions}
 use Rattle.rad_dict.specs.Base.{base_definitions}
@@ -14,7 +15,6 @@ use Rattle.rad_policy.specs.Policy.{Sources}
 use Rattle.rad_packet.specs.declared.client.Client.{Client}
 use Rattle.rad_clients.specs.Networks.{is_of}
 use Rattle.unlang_tree.specs.Policies.{policies_of}
-use Rattle.rad_site.specs.declared.build.servers.Listener.{Listener}
 use Rattle.rad_site.specs.declared.fault.BuildFault.{BuildFault}
 use Rattle.rad_site.specs.Site.{Site}
 use Rattle.rad_site.specs.Nodes.{◌>>=◌, refused, bad_setting, formed, after_each}
@@ -27,7 +27,7 @@ use Rattle.rad_site.specs.Settings.{settings_in}
 use Rattle.rad_site.specs.TreeFault.{of_tree}
 use Rattle.rad_site.specs.Modules.{Modules}
 use Rattle.rad_site.specs.ModulesBlock.{modules_in}
-use Rattle.rad_site.specs.ServerBlocks.{servers_in}
+use Rattle.rad_site.specs.ServerBlocks.{servers_in, listeners_of}
 use Rattle.rad_site.specs.Policies.{Policies}
 
 -- The configuration's file, and the place that stands for it as a whole.
@@ -85,29 +85,28 @@ front_in nodes = do
   clients ← clients_in nodes
   Ok (settings, clients)
 
--- The site with this dictionary, these settings and clients, these policies and this listener.
-abbrev pub site_with : Definitions → Settings × List Client → Policies × Listener → Site
+-- The site with this dictionary, these settings and clients, these policies and these listeners.
+abbrev pub site_with : Definitions → Settings × List Client → Policies × List Listen → Site
 site_with dict front parts = record {
   dict = dict;
   settings = front.0;
   clients = front.1;
   policies = parts.0;
-  server = parts.1.server;
-  at = parts.1.at;
+  listeners = parts.1;
 }
 
--- The policies of a configuration with these modules, and its listener: first the servers' own settings, then what stands in
--- their sections. A configuration without a listener is refused last of all.
-unfoldable pub parts_in : Definitions → Modules → List Node → Result (Policies × Listener) BuildFault
-parts_in dict modules nodes = do
-  servers ← servers_in nodes
+-- The policies of a configuration with these modules, and its listeners, each of which so many workers serve: first the servers' own
+-- settings, then what stands in their sections. A configuration without a listener is refused last of all.
+unfoldable pub parts_in : ℕ → Definitions → Modules → List Node → Result (Policies × List Listen) BuildFault
+parts_in per dict modules nodes = do
+  servers ← servers_in per nodes
   policies ← policies_in dict modules nodes
-  listener ← formed whole_conf (codes "listen") servers.listener
-  Ok (policies, listener)
+  listeners ← listeners_of whole_conf servers
+  Ok (policies, listeners)
 
 -- The site behind its modules.
 unfoldable pub site_behind : Definitions → Settings × List Client → Modules → List Node → Result Site BuildFault
-site_behind dict front modules nodes = parts_in dict modules nodes >>= λ parts. Ok (site_with dict front parts)
+site_behind dict front modules nodes = parts_in front.0.start_servers dict modules nodes >>= λ parts. Ok (site_with dict front parts)
 
 -- The site of a whole configuration with this dictionary: its settings, its clients, its modules with their files, and its servers with
 -- their policies.

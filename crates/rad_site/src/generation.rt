@@ -4,19 +4,19 @@ use crate::policies::Policies;
 use crate::settings::Settings;
 use rad_clients::Clients;
 use rad_dict::Dict;
-use rad_outside::{Octets, Peer};
+use rad_outside::Listen;
+use sqlite_items::Items;
 use std::marker::Model;
 
-/// A generation of a site: a dictionary, the settings, the clients, the modules and the servers' sections that call them, and one auth
-/// listener.
+/// A generation of a site: a dictionary, the settings, the clients, the modules and the servers' sections that call them, and the
+/// listeners.
 #[derive(Drop)]
 pub struct Generation {
     pub(crate) dict: Dict,
     pub(crate) settings: Settings,
     pub(crate) clients: Clients,
     pub(crate) policies: Policies,
-    pub(crate) server: Octets,
-    pub(crate) at: Peer,
+    pub(crate) listeners: Items<Listen>,
 }
 
 impl Model for Generation {
@@ -33,23 +33,15 @@ impl Model for Generation {
       settings = g.settings;
       clients = g.clients;
       policies = g.policies;
-      server = g.server;
-      at = g.at;
+      listeners = g.listeners;
     } };
 }
 
 impl Generation {
-    /// The name of the listener's server.
-    pub fn server(&self) -> &[u8]
-        ensures { result.now ≡ self.now.server }
+    /// The listeners, in the order of the site's text.
+    pub fn listeners(&self) -> &[Listen]
+        ensures { result.now ≡ self.now.listeners }
     {
-        self.server.as_slice()
-    }
-
-    /// Where the listener is bound.
-    pub fn at(&self) -> Peer
-        ensures { result ≡ self.now.at }
-    {
-        self.at
+        self.listeners.as_slice()
     }
 }

@@ -6,6 +6,7 @@ ghost use Rattle.std.specs.Option.{option_copied};
 ghost use Rattle.rad_outside.specs.Telling.{Counts};
 ghost use Rattle.rad_site.specs.Nodes.{Gives, bad_setting, after_each};
 ghost use Rattle.rad_site.specs.Sources.{FindsIn};
+ghost use Rattle.rad_site.specs.ServerBlocks.{listeners_of};
 ghost use Rattle.rad_site.specs.Built.{whole_conf, is_unbuilt, none_unbuilt, with_client, with_item, clients_in, front_in, parts_in, site_behind, site_of};
 
 use crate::build::client::client_at;
@@ -14,7 +15,7 @@ use crate::build::item::is_block;
 use crate::build::modules::modules_in;
 use crate::build::policies::policies_in;
 use crate::build::refusal::{refuse, refuse_setting};
-use crate::build::servers::{Listener, servers_in};
+use crate::build::servers::{Servers, servers_in};
 use crate::build::settings::settings_in;
 use crate::fault::BuildFault;
 use crate::generation::Generation;
@@ -23,7 +24,8 @@ use crate::settings::Settings;
 use rad_clients::Clients;
 use rad_conf::{Conf, Node};
 use rad_dict::Dict;
-use rad_outside::{Files, Octets, Place};
+use rad_outside::{Files, Listen, Octets, Place};
+use sqlite_items::Items;
 use std::alloc::Global;
 
 /// The name of the configuration's file in its folder.
@@ -108,22 +110,32 @@ fn clients_in(alloc: Global, nodes: &[Node]) -> Result<Clients, BuildFault>
     each_client(alloc, nodes)
 }
 
-/// The policies of a configuration with these modules, and its listener.
+/// The listeners of servers, of which there is one at least.
+#[tactic(auto, unfolding(crate::specs::ServerBlocks::listeners_of))]
+fn listeners_of(alloc: Global, servers: Servers) -> Result<Items<Listen>, BuildFault>
+    ensures { Gives result (listeners_of whole_conf servers) }
+{
+    if servers.is_deaf() {
+        return refuse_whole(alloc, b"listen");
+    }
+    Ok(servers.into_listeners())
+}
+
+/// The policies of a configuration with these modules, and its listeners, each of which so many workers serve.
 #[tactic(auto, unfolding(crate::specs::Built::parts_in))]
 fn parts_in(
     alloc: Global,
+    per: u32,
     dict: &Dict,
     modules: Modules,
     conf: &Conf,
-) -> Result<(Policies, Listener), BuildFault>
-    ensures { Gives result (parts_in dict.now modules conf.now) }
+) -> Result<(Policies, Items<Listen>), BuildFault>
+    ensures { Gives result (parts_in per dict.now modules conf.now) }
 {
-    let servers = servers_in(alloc, conf.root().as_slice())?;
+    let servers = servers_in(alloc, per, conf.root().as_slice())?;
     let policies = policies_in(alloc, dict, modules, conf)?;
-    match servers.into_listener() {
-        Some(listener) => Ok((policies, listener)),
-        None => refuse_whole(alloc, b"listen"),
-    }
+    let listeners = listeners_of(alloc, servers)?;
+    Ok((policies, listeners))
 }
 
 /// The settings, and then the clients.
@@ -147,15 +159,14 @@ fn site_behind(
 ) -> Result<Generation, BuildFault>
     ensures { Gives result (site_behind dict front modules conf.now) }
 {
-    let (policies, listener) = parts_in(alloc, &dict, modules, conf)?;
     let (settings, clients) = front;
+    let (policies, listeners) = parts_in(alloc, settings.start_servers, &dict, modules, conf)?;
     Ok(Generation {
         dict,
         settings,
         clients,
         policies,
-        server: listener.server,
-        at: listener.at,
+        listeners,
     })
 }
 
