@@ -1,7 +1,8 @@
 -- The hub's invariant over what is added.
-use Rattle.std.proofs.Common.{ℕ, ◌≡◌, ◌<◌, ◌+◌, ◌^◌, ◌++◌, [], ◌∷◌, length, ap, sym, ◌∙◌, arith}
+use Rattle.std.proofs.Common.{ℕ, ◌≡◌, ◌<◌, ◌+◌, ◌^◌, ◌++◌, List, [], ◌∷◌, length, inr, ap, sym, ◌∙◌, arith}
 use Rattle.rad_turn.specs.declared.view.View.{View}
-use Rattle.rad_turn.specs.Views.{IsSameSeat}
+use Rattle.rad_turn.specs.Names.{is_out}
+use Rattle.rad_turn.specs.Views.{ActsAs, IsSameSeat}
 use Rattle.rad_core.specs.declared.entry.Entry.{Entry}
 use Rattle.rad_core.specs.Requests.{Requests}
 use Rattle.rad_core.specs.Step.{Step}
@@ -14,6 +15,10 @@ use Rattle.rad_serve.specs.declared.counts.Tally.{Tally}
 use Rattle.rad_serve.specs.Counting.{tally_of}
 use Rattle.rad_serve.specs.History.{IsAlone, IsNumbered, state_after, Adds}
 use Rattle.rad_serve.proofs.Tallies.{length_push}
+
+-- the first seat may act under any name while no other is out
+pub alone_acts : {O B : Type 0} (v : View (Entry Site BuildFault) O B) (name : ℕ) → IsAlone v → ActsAs v name
+alone_acts v name alone = inr (alone.name, ap (is_out name) alone.out)
 
 module _ {O B : Type 0} (v w : View (Entry Site BuildFault) O B) (entry : Entry Site BuildFault) (alone : IsAlone v) (adds : TurnAdds site_meaning v w entry) where
   pub grows : w.seen ≡ v.seen ++ entry ∷ []

@@ -119,20 +119,19 @@ authentic_at_place old mid arrival ticket present step =
 
 module _ {O B : Type 0} (v m w : View (Entry Site BuildFault) O B) (arrival : Arrived) (ticket : Ticket Site) (luck : ℕ) (outcome : Outcome) where
   -- a fresh request and its finish are two entries, and have the reply that was copied
-  pub turn_fresh : (reply : Option Reply) (buffer : List ℕ) → IsAlone v → m.name ≡ 0 → m.out ≡ [] → arrival.worker ≡ 0
+  pub turn_fresh : (reply : Option Reply) (buffer : List ℕ) → IsAlone v → m.name ≡ 0 → m.out ≡ []
       → TurnAdds site_meaning v m (Start arrival (Fresh ticket.place)) → (state_after m.seen).present ≡ Some (arc_value ticket.generation) → (state_after m.seen).moment ≡ ticket.moment
       → GivesOutcome site_meaning (arc_value ticket.generation) arrival ticket.moment luck outcome
-      → TurnAdds site_meaning m w (Finish m.name ticket.place (ending_seen outcome)) → IsCopied outcome reply buffer
+      → TurnAdds site_meaning m w (Finish arrival.worker ticket.place (ending_seen outcome)) → IsCopied outcome reply buffer
       → AddsTurn v.seen w.seen (state_after v.seen) (state_after w.seen) arrival luck (answers_of arrival reply buffer)
-  turn_fresh reply buffer alone name out worker first present moment given second copied =
+  turn_fresh reply buffer alone name out first present moment given second copied =
       let old = state_after v.seen in
       let mid = state_after m.seen in
       let new = state_after w.seen in
       let start = Start arrival (Fresh ticket.place) in
       let finish = Finish arrival.worker ticket.place (ending_seen outcome) in
-      let finished : TurnAdds site_meaning m w finish = subst (λ (n : ℕ). TurnAdds site_meaning m w (Finish n ticket.place (ending_seen outcome))) (name ∙ sym worker) second in
       let begun : (m.seen ≡ v.seen ++ start ∷ []) × Step site_meaning old start mid = alone_adds site_meaning v m alone.name alone.out start first in
-      let ended : (w.seen ≡ m.seen ++ finish ∷ []) × Step site_meaning mid finish new = alone_adds site_meaning m w name out finish finished in (
+      let ended : (w.seen ≡ m.seen ++ finish ∷ []) × Step site_meaning mid finish new = alone_adds site_meaning m w name out finish second in (
         start ∷ finish ∷ [],
         ended.0 ∙ ap (λ (h : List (Entry Site BuildFault)). h ++ finish ∷ []) begun.0 ∙ append_assoc v.seen (start ∷ []) (finish ∷ []),
         subst (λ (replies : List Answer). Passes site_meaning old new (start ∷ finish ∷ []) arrival luck replies)
@@ -142,11 +141,11 @@ module _ {O B : Type 0} (v m w : View (Entry Site BuildFault) O B) (arrival : Ar
 
   -- and count as a request and its reply
   pub counts_fresh : (reply : Option Reply) (buffer : List ℕ) → IsAlone v → m.name ≡ 0 → m.out ≡ []
-      → TurnAdds site_meaning v m (Start arrival (Fresh ticket.place)) → TurnAdds site_meaning m w (Finish m.name ticket.place (ending_seen outcome)) → IsCopied outcome reply buffer
+      → TurnAdds site_meaning v m (Start arrival (Fresh ticket.place)) → TurnAdds site_meaning m w (Finish arrival.worker ticket.place (ending_seen outcome)) → IsCopied outcome reply buffer
       → CountsTurn v.seen w.seen (record { entries = 2; reply = reply })
   counts_fresh reply buffer alone name out first second copied =
       let start = Start arrival (Fresh ticket.place) in
-      let finish = Finish m.name ticket.place (ending_seen outcome) in
+      let finish = Finish arrival.worker ticket.place (ending_seen outcome) in
       let begun : m.seen ≡ v.seen ++ start ∷ [] = (alone_adds site_meaning v m alone.name alone.out start first).0 in
       let ended : w.seen ≡ m.seen ++ finish ∷ [] = (alone_adds site_meaning m w name out finish second).0 in
       let mid = tally_push v.seen m.seen start begun in

@@ -4,5 +4,6 @@ pub mod Turn
 pub mod Told
 pub mod Leaving
 pub mod Serving
+pub mod Rounds
 pub mod Counting
 pub mod Installing

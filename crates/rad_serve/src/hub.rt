@@ -123,7 +123,6 @@ impl<L: Shelf> Hub<L> {
         requires installed { IsSome (state_after self.old.history).present }
         requires few { length self.old.history + 2 ≤ 2 ^ 62 }
         requires auth { arrival.now.kind ≡ Auth }
-        requires worker { arrival.now.worker ≡ 0 }
         ensures turn { AddsTurn self.old.history self.new.history (state_after self.old.history)
             (state_after self.new.history) (arrived_of arrival.entry.now) luck
             (answers_of (arrived_of arrival.entry.now) result buffer.new) }
@@ -171,26 +170,26 @@ impl<L: Shelf> Hub<L> {
         installed
     }
 
-    /// Worker 0 looks at the server, as one entry of the history.
-    pub(crate) fn look<R: Wait>(&mut self, rt: &R) -> Seen
+    /// A worker looks at the server, as one entry of the history.
+    pub(crate) fn look<R: Wait>(&mut self, rt: &R, worker: u32) -> Seen
         requires { length self.old.history < 2 ^ 62 }
-        ensures added { Adds self.old.history self.new.history (Look 0 result) }
+        ensures added { Adds self.old.history self.new.history (Look worker result) }
         ensures origin { self.new.origin ≡ self.old.origin }
     {
-        let Ok(seen) = self.post.look(rt, &mut self.seat) else {
+        let Ok(seen) = self.post.look_as(rt, &mut self.seat, worker) else {
             unreachable!()
         };
         self.length += 1;
         seen
     }
 
-    /// Worker 0 stops the server, as one entry of the history.
-    pub(crate) fn stop<R: Wait>(&mut self, rt: &R)
+    /// A worker stops the server, as one entry of the history.
+    pub(crate) fn stop<R: Wait>(&mut self, rt: &R, worker: u32)
         requires { length self.old.history < 2 ^ 62 }
-        ensures added { Adds self.old.history self.new.history (Stop 0) }
+        ensures added { Adds self.old.history self.new.history (Stop worker) }
         ensures origin { self.new.origin ≡ self.old.origin }
     {
-        let Ok(()) = self.post.stop(rt, &mut self.seat) else {
+        let Ok(()) = self.post.stop_as(rt, &mut self.seat, worker) else {
             unreachable!()
         };
         self.length += 1;

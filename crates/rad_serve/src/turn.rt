@@ -81,7 +81,6 @@ pub(crate) fn take_turn<R: Wait, L: Shelf, S: Shelf, G: Gate>(
     requires installed { IsSome (state_after (view seat.old).seen).present }
     requires few { length (view seat.old).seen + 2 ≤ 2 ^ 62 }
     requires auth { arrival.now.kind ≡ Auth }
-    requires worker { arrival.now.worker ≡ 0 }
     ensures own { IsOf post.now.desk seat.new }
     ensures same { IsSameSeat (view seat.old) (view seat.new) }
     ensures turn { AddsTurn (view seat.old).seen (view seat.new).seen (state_after (view seat.old).seen)
@@ -104,7 +103,7 @@ pub(crate) fn take_turn<R: Wait, L: Shelf, S: Shelf, G: Gate>(
                 .generation
                 .access(alloc, arrival, ticket.moment, luck, shelf);
             let reply = copied(&outcome, place, buffer);
-            let Ok(()) = post.finish(rt, seat, ticket, outcome) else {
+            let Ok(()) = post.finish_as(rt, seat, arrival.worker, ticket, outcome) else {
                 unreachable!()
             };
             Taken { entries: 2, reply }

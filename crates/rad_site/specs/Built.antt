@@ -4,7 +4,6 @@ use Rattle.std.specs.Prelude.{ℕ, Bool, [], ◌∷◌, ◌++◌, ◌||◌, List
 use Rattle.std.specs.Option.{is_some}
 use Rattle.std.specs.List.{find}
 use Rattle.rad_outside.specs.declared.files.Place.{Place}
-use Rattle.rad_outside.specs.declared.listen.Listen.{Listen}
 use Rattle.rad_outside.specs.Files.{octets_at}
 use Rattle.rad_dict.specs.Definitions.{Definitions}
 use Rattle.rad_dict.specs.Base.{base_definitions}
@@ -16,6 +15,7 @@ use Rattle.rad_packet.specs.declared.client.Client.{Client}
 use Rattle.rad_clients.specs.Networks.{is_of}
 use Rattle.unlang_tree.specs.Policies.{policies_of}
 use Rattle.rad_site.specs.declared.fault.BuildFault.{BuildFault}
+use Rattle.rad_site.specs.declared.generation.Listener.{Listener}
 use Rattle.rad_site.specs.Site.{Site}
 use Rattle.rad_site.specs.Nodes.{◌>>=◌, refused, bad_setting, formed, after_each}
 use Rattle.rad_site.specs.Items.{is_block}
@@ -86,7 +86,7 @@ front_in nodes = do
   Ok (settings, clients)
 
 -- The site with this dictionary, these settings and clients, these policies and these listeners.
-abbrev pub site_with : Definitions → Settings × List Client → Policies × List Listen → Site
+abbrev pub site_with : Definitions → Settings × List Client → Policies × List Listener → Site
 site_with dict front parts = record {
   dict = dict;
   settings = front.0;
@@ -97,7 +97,7 @@ site_with dict front parts = record {
 
 -- The policies of a configuration with these modules, and its listeners, each of which so many workers serve: first the servers' own
 -- settings, then what stands in their sections. A configuration without a listener is refused last of all.
-unfoldable pub parts_in : ℕ → Definitions → Modules → List Node → Result (Policies × List Listen) BuildFault
+unfoldable pub parts_in : ℕ → Definitions → Modules → List Node → Result (Policies × List Listener) BuildFault
 parts_in per dict modules nodes = do
   servers ← servers_in per nodes
   policies ← policies_in dict modules nodes

@@ -1,15 +1,15 @@
 -- The virtual servers of a configuration, `server NAME { listen { .. } sections }`: their names and their listeners. What
 -- stands in their sections is read behind them. After the manual page radiusd.conf(5).
-use Rattle.std.specs.Prelude.{ℕ, ◌*◌, Bool, true, false, ◌||◌, List, [], ◌∷◌, ◌++◌, length, nat_lt, is_nil, Result, Ok, codes, if◌then◌else◌}
+use Rattle.std.specs.Prelude.{ℕ, ◌*◌, ◌==◌, Bool, true, false, ◌||◌, List, [], ◌∷◌, ◌++◌, length, nat_lt, Result, Ok, codes, if◌then◌else◌}
 use Rattle.std.specs.List.{list_any}
 use Rattle.std.specs.Str.{bytes_eq}
 use Rattle.rad_outside.specs.declared.files.Place.{Place}
-use Rattle.rad_outside.specs.declared.listen.Listen.{Listen}
 use Rattle.rad_outside.specs.declared.listen.ListenKind.{ListenKind}
 use Rattle.rad_outside.specs.declared.listen.ListenKind.TheVariants as listen
 use Rattle.rad_conf.specs.declared.tree.Node.{Node}
 use Rattle.rad_site.specs.declared.fault.BuildFault.{BuildFault}
 use Rattle.rad_site.specs.declared.build.listen.Bound.{Bound}
+use Rattle.rad_site.specs.declared.generation.Listener.{Listener}
 use Rattle.rad_site.specs.declared.build.servers.Servers.{Servers}
 use Rattle.rad_site.specs.Nodes.{◌>>=◌, refused, bad_setting, formed, after_each}
 use Rattle.rad_site.specs.Items.{is_block, is_section, nodes_of, named_block}
@@ -31,7 +31,7 @@ is_built listen.Control = false
 
 -- The servers with one more listener, of the server of a name.
 abbrev pub with_listener : Servers → List ℕ → Bound → Servers
-with_listener known name bound = record known { listeners = known.listeners ++ record { server = name; kind = bound.kind; at = bound.at } ∷ [] }
+with_listener known name bound = record known { listeners = known.listeners ++ record { server = name; at = bound.at } ∷ [] }
 
 -- There may be 16 listeners, and 64 workers over all of them, so many for each. One listener more is refused at its block by `listen`,
 -- and the one with which the workers are more than 64 by `start_servers`.
@@ -87,5 +87,5 @@ abbrev pub servers_in : ℕ → List Node → Result Servers BuildFault
 servers_in per nodes = after_each (with_server per) no_servers nodes
 
 -- The listeners of servers, in order. A configuration has one at least: else it is refused as a whole, by `listen`.
-unfoldable pub listeners_of : Place → Servers → Result (List Listen) BuildFault
-listeners_of whole known = if is_nil known.listeners then bad_setting whole (codes "listen") else Ok known.listeners
+unfoldable pub listeners_of : Place → Servers → Result (List Listener) BuildFault
+listeners_of whole known = if length known.listeners == 0 then bad_setting whole (codes "listen") else Ok known.listeners

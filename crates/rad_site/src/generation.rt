@@ -4,9 +4,16 @@ use crate::policies::Policies;
 use crate::settings::Settings;
 use rad_clients::Clients;
 use rad_dict::Dict;
-use rad_outside::Listen;
+use rad_outside::{Octets, Peer};
 use sqlite_items::Items;
 use std::marker::Model;
+
+/// A listener of Access-Requests: the name of its server, and where it is bound.
+#[derive(Debug, Drop)]
+pub struct Listener {
+    pub server: Octets,
+    pub at: Peer,
+}
 
 /// A generation of a site: a dictionary, the settings, the clients, the modules and the servers' sections that call them, and the
 /// listeners.
@@ -16,7 +23,7 @@ pub struct Generation {
     pub(crate) settings: Settings,
     pub(crate) clients: Clients,
     pub(crate) policies: Policies,
-    pub(crate) listeners: Items<Listen>,
+    pub(crate) listeners: Items<Listener>,
 }
 
 impl Model for Generation {
@@ -39,7 +46,7 @@ impl Model for Generation {
 
 impl Generation {
     /// The listeners, in the order of the site's text.
-    pub fn listeners(&self) -> &[Listen]
+    pub fn listeners(&self) -> &[Listener]
         ensures { result.now ≡ self.now.listeners }
     {
         self.listeners.as_slice()

@@ -21,7 +21,7 @@ mod verdict;
 
 pub use build::fault_text;
 pub use fault::BuildFault;
-pub use generation::Generation;
+pub use generation::{Generation, Listener};
 pub use laws::{
     challenges_let_requests_in, passwords_and_challenges_let_requests_in, passwords_let_requests_in,
 };

@@ -1,5 +1,5 @@
 -- The headline of a run, from what its parts left.
-use Rattle.std.proofs.Common.{ℕ, ◌≡◌, ◌⊎◌, ◌≤◌, ◌++◌, List, [], ◌∷◌, Bool, true, Option, None, Ok, length, inl, inr, refl, ap, sym, ◌∙◌, subst, append-nil, append_assoc, arith}
+use Rattle.std.proofs.Common.{ℕ, suc, ◌≡◌, ◌⊎◌, ◌≤◌, ◌+◌, ◌++◌, List, [], ◌∷◌, map, true, Option, Ok, length, inl, inr, refl, ap, sym, ◌∙◌, subst, append-nil, append_assoc, arith}
 use Rattle.std.specs.List.{AllByRecursion}
 use Rattle.rad_outside.specs.declared.crew.Kit.{Kit}
 use Rattle.rad_outside.specs.Crew.{Handed}
@@ -9,32 +9,37 @@ use Rattle.rad_core.specs.State.{ServerState, opening}
 use Rattle.rad_core.specs.declared.entry.Entry.{Entry}
 use Rattle.rad_core.specs.declared.entry.Entry.TheVariants.{Install}
 use Rattle.rad_core.specs.Step.{after, IsLegal}
-use Rattle.rad_core.specs.Worker.{Placed, placed, of_worker, IsClosed, IsOwn}
-use Rattle.rad_core.proofs.Histories.{run-append, IsLegal-append, of_worker-own}
+use Rattle.rad_core.specs.Worker.{Placed, placed, of_worker, IsClosed}
+use Rattle.rad_core.specs.Completeness.{EachHasOneReply}
+use Rattle.rad_core.proofs.Histories.{run-append, IsLegal-append}
 use Rattle.rad_core.proofs.Stemming.{keeps_replies}
 use Rattle.rad_core.proofs.Completeness.{may_all, may_own, each_one_reply}
 use Rattle.rad_site.specs.declared.fault.BuildFault.{BuildFault}
-use Rattle.rad_serve.specs.declared.left.Left.{Left}
 use Rattle.rad_site.specs.Site.{Site}
 use Rattle.rad_site.specs.Meaning.{site_meaning}
 use Rattle.rad_serve.specs.History.{state_after, Installs}
-use Rattle.radiusd.specs.Loading.{listener_of, TriesInstall}
-use Rattle.rad_serve.specs.Told.{KitTells, Told, GrowsBy}
-use Rattle.rad_serve.specs.Leaving.{Leaves, IsAtEnd}
+use Rattle.radiusd.specs.Loading.{listeners_of, TriesInstall}
+use Rattle.rad_serve.specs.Told.{KitTells, GrowsBy}
+use Rattle.rad_serve.specs.Leaving.{IsAtEnd}
 use Rattle.radiusd.specs.Printing.{Prints}
-use Rattle.radiusd.specs.Course.{Course, Serving, Takes, BeginsWithInstall, IsExcused, Call, call_of, lines_of}
-use Rattle.rad_serve.specs.Serving.{GoesOn}
-use Rattle.radiusd.specs.Headline.{Headline, IsNamed}
+use Rattle.radiusd.specs.Course.{Course, Unserved, Takes, EndsSo, BeginsWithInstall, IsExcused, lines_of, status_line}
+use Rattle.radiusd.specs.ExitStatuses.{number_of}
+use Rattle.radiusd.specs.declared.status.Status.{Status}
+use Rattle.radiusd.specs.declared.status.Status.TheVariants as status
+use Rattle.radiusd.specs.Hiring.{staffed}
+use Rattle.rad_serve.specs.declared.worker.Worker.{Worker}
+use Rattle.rad_serve.specs.Rounds.{Round, EachWorks, IsAmong}
+use Rattle.radiusd.specs.Headline.{Headline, Worked, EachKit, IsNamed}
 
 -- what is legal after the state is legal after the history
 legal_all : (before now added : List (Entry Site BuildFault)) → IsLegal site_meaning opening before → now ≡ before ++ added → IsLegal site_meaning (state_after before) added → IsLegal site_meaning opening now
 legal_all before now added legal grows more =
     subst (λ (h : List (Entry Site BuildFault)). IsLegal site_meaning opening h) (sym grows) (IsLegal-append site_meaning opening before added legal more)
 
--- entries of worker 0 are named
-named-own : (kits : ℕ) (entries : List (Entry Site BuildFault)) → AllByRecursion (IsOwn 0) entries → AllByRecursion (IsNamed kits) entries
-named-own kits [] own = tt
-named-own kits (entry ∷ more) own = (inl own.0, named-own kits more own.1)
+-- entries of so many workers are named where there are so many kits
+named_among : (count kits : ℕ) (entries : List (Entry Site BuildFault)) → count ≡ kits → AllByRecursion (IsAmong 0 count) entries → AllByRecursion (IsNamed kits) entries
+named_among count kits [] is among = tt
+named_among count kits (entry ∷ more) is among = (inr (omega (arith, is, among.0.1)), named_among count kits more is among.1)
 
 -- what an install that was tried adds, and what nothing adds
 record IsFew (site : Site) (state : ServerState Site) (added : List (Entry Site BuildFault)) : Type 0 where
@@ -46,27 +51,41 @@ record IsFew (site : Site) (state : ServerState Site) (added : List (Entry Site 
 few_nothing : (site : Site) (state : ServerState Site) → IsFew site state []
 few_nothing site state = record { whole = tt; named = tt; begins = tt; few = omega arith }
 
-few_install : (site : Site) (state : ServerState Site) (answer : Installed BuildFault) → IsFew site state (Install 0 (Ok site) (listener_of site ∷ []) answer ∷ [])
+few_install : (site : Site) (state : ServerState Site) (answer : Installed BuildFault) → IsFew site state (Install 0 (Ok site) (listeners_of site) answer ∷ [])
 few_install site state answer = record { whole = tt; named = (inl refl, tt); begins = (answer, refl); few = omega arith }
 
-is_few : (site : Site) (state : ServerState Site) (added : List (Entry Site BuildFault)) → (added ≡ []) ⊎ ((answer : Installed BuildFault) × (added ≡ Install 0 (Ok site) (listener_of site ∷ []) answer ∷ [])) → IsFew site state added
+is_few : (site : Site) (state : ServerState Site) (added : List (Entry Site BuildFault)) → (added ≡ []) ⊎ ((answer : Installed BuildFault) × (added ≡ Install 0 (Ok site) (listeners_of site) answer ∷ [])) → IsFew site state added
 is_few site state added tried = elim tried [
   | inl none ↦ subst (λ (entries : List (Entry Site BuildFault)). IsFew site state entries) (sym none) (few_nothing site state)
   | inr one ↦ subst (λ (entries : List (Entry Site BuildFault)). IsFew site state entries) (sym one.1) (few_install site state one.0)
 ]
 
--- an install that succeeded was tried
-pub tried_install : (before now : List (Entry Site BuildFault)) (site : Site) (is_present : Bool) → Installs before now site (listener_of site ∷ []) is_present → TriesInstall before now site
-tried_install before now site is_present installs = record {
-  added = Install 0 (Ok site) (listener_of site ∷ []) installs.answer ∷ [];
-  grows = installs.grows;
-  legal = installs.legal;
-  tried = inr (installs.answer, refl);
-}
+-- the end of a run whose site wasn't installed
+pub uninstalled_ends : (site : Site) (ended : Status) (A : Type 0) → (ended ≡ status.NoMemory) ⊎ ((ended ≡ status.Worn) × A) → EndsSo (Unserved site) (number_of ended)
+uninstalled_ends site ended A which = elim which [
+  | inl memory ↦ inr (inr (ap number_of memory))
+  | inr worn ↦ inr (inl (ap number_of worn.0))
+]
+
+-- and of one whose workers couldn't be hired
+pub unhired_ends : (site : Site) (ended : Status) → (ended ≡ status.SocketFault) ⊎ (ended ≡ status.NoMemory) → EndsSo (Unserved site) (number_of ended)
+unhired_ends site ended which = elim which [
+  | inl socket ↦ inl (ap number_of socket)
+  | inr memory ↦ inr (inr (ap number_of memory))
+]
+
+-- there are as many workers as kits
+length_staffed : {W S K U G : Type 0} (number : ℕ) (handed : List (Handed W S K U G)) → length (staffed number handed) ≡ length handed
+length_staffed number [] = refl
+length_staffed number (h ∷ more) = ap suc (length_staffed (number + 1) more)
+
+-- the install of a site
+abbrev pub install_of : Site → Installed BuildFault → Entry Site BuildFault
+install_of site answer = Install 0 (Ok site) (listeners_of site) answer
 
 module _ {W S K U G L : Type 0} (tells : KitTells W K U) (status : ℕ) (crew_before crew_now : Option (List (Handed W S K U G))) (log_before log_now : L) (printed_before printed_now : Option (List ℕ)) (sink_before sink_now : ℕ) where
   -- nothing was added, and no kit was taken
-  pub headline_idle : (course : Course) (history : List (Entry Site BuildFault)) → IsLegal site_meaning opening history → Takes {W = W} {S = S} {K = K} {U = U} {G = G} course status [] [] → Tells crew_before crew_now (GrowsBy []) → log_now ≡ log_before → Tells printed_before printed_now (Prints (lines_of {H = Handed W S K U G} course status [] []) (IsExcused sink_before sink_now status)) → Headline tells course status crew_before crew_now log_before log_now printed_before printed_now sink_before sink_now history history []
+  pub headline_idle : (course : Course) (history : List (Entry Site BuildFault)) → IsLegal site_meaning opening history → Takes {W = W} {S = S} {K = K} {U = U} {G = G} course status [] [] → Tells crew_before crew_now (GrowsBy []) → log_now ≡ log_before → Tells printed_before printed_now (Prints (lines_of course status []) (IsExcused sink_before sink_now status)) → Headline tells course status crew_before crew_now log_before log_now printed_before printed_now sink_before sink_now history history []
   headline_idle course history legal takes crew log printed = record {
     added = [];
     begins = sym (append-nil history);
@@ -77,18 +96,14 @@ module _ {W S K U G L : Type 0} (tells : KitTells W K U) (status : ℕ) (crew_be
     handed_out = crew;
     named = tt;
     loads = takes;
-    served_in_order = tt;
-    replies_in_order = tt;
-    outcomes = tt;
-    appends = tt;
-    control = tt;
+    told = tt;
     session_log = log;
     printed_lines = printed;
   }
 
   -- the site's install was tried, and no kit was handed out
-  pub headline_without_kit : (site : Site) (before now : List (Entry Site BuildFault)) → IsLegal site_meaning opening before → TriesInstall before now site → ¬ (status ≡ 0) → Tells crew_before crew_now (GrowsBy []) → log_now ≡ log_before → Tells printed_before printed_now (Prints (lines_of {H = Handed W S K U G} (Serving site) status [] []) (IsExcused sink_before sink_now status)) → Headline tells (Serving site) status crew_before crew_now log_before log_now printed_before printed_now sink_before sink_now before now []
-  headline_without_kit site before now legal tries unfinished crew log printed =
+  pub headline_uninstalled : (site : Site) (before now : List (Entry Site BuildFault)) → IsLegal site_meaning opening before → TriesInstall before now site → EndsSo (Unserved site) status → Tells crew_before crew_now (GrowsBy []) → log_now ≡ log_before → Tells printed_before printed_now (Prints (status_line status) (IsExcused sink_before sink_now status)) → Headline tells (Unserved site) status crew_before crew_now log_before log_now printed_before printed_now sink_before sink_now before now []
+  headline_uninstalled site before now legal tries ends crew log printed =
       let few = is_few site (state_after before) tries.added tries.tried in
       record {
         added = tries.added;
@@ -99,64 +114,53 @@ module _ {W S K U G L : Type 0} (tells : KitTells W K U) (status : ℕ) (crew_be
         handed = [];
         handed_out = crew;
         named = few.named;
-        loads = (few.begins, inr (refl, few.few, unfinished));
-        served_in_order = tt;
-        replies_in_order = tt;
-        outcomes = tt;
-        appends = tt;
-        control = tt;
+        loads = (ends, few.begins, few.few, inl refl);
+        told = tt;
         session_log = log;
         printed_lines = printed;
       }
 
-  -- one kit was handed out, and served from the install on
-  pub headline_with_kit : (site : Site) (before mid now : List (Entry Site BuildFault)) (handed : Handed W S K U G) (kit : Kit W S K U G) (left : Option Left) → IsLegal site_meaning opening before → Installs before mid site (listener_of site ∷ []) true → Tells crew_before crew_now (GrowsBy (handed ∷ [])) → call_of handed ≡ (record { worker = 0; listen = listener_of site; control = None }) → GoesOn tells 0 handed.listen left mid now (record handed.kit { listener = 0 }) kit → (status ≡ 0 → IsAtEnd left) → log_now ≡ log_before → ((added : List (Entry Site BuildFault)) → now ≡ before ++ added → Tells printed_before printed_now (Prints (lines_of (Serving site) status (handed ∷ []) added) (IsExcused sink_before sink_now status))) → Headline tells (Serving site) status crew_before crew_now log_before log_now printed_before printed_now sink_before sink_now before now (kit ∷ [])
-  headline_with_kit site before mid now handed kit left legal installs crew called goes at_end log printed =
-      let first = Install 0 (Ok site) (listener_of site ∷ []) installs.answer in
+  -- each kit tells what its worker did
+  each_worked : (entries : ℕ → List (Placed Site BuildFault)) (number : ℕ) (handed : List (Handed W S K U G)) (news : List (Worker W S K U G)) → ((k : ℕ) → IsClosed (entries k) → EachHasOneReply site_meaning (entries k)) → EachWorks tells entries number (staffed number handed) news → (status ≡ 0 → AllByRecursion (λ (worker : Worker W S K U G). IsAtEnd worker.left) news)
+      → EachKit (λ worker h kit. Worked tells status (entries worker) worker h kit) number handed (map (λ (worker : Worker W S K U G). worker.kit) news)
+  each_worked entries number [] [] one each ends = tt
+  each_worked entries number (h ∷ more) (new ∷ news) one each ends = (
+    record {
+      told = each.0.told;
+      each = one number each.0.told.closed;
+      left = new.left;
+      leaves = each.0.leaves;
+      at_end = λ e. (ends e).0;
+    },
+    each_worked entries (number + 1) more news one each.1 (λ e. (ends e).1),
+  )
+  each_worked entries number [] (new ∷ news) one each ends = absurd each
+  each_worked entries number (h ∷ more) [] one each ends = absurd each
+
+  -- kits were handed out, and their workers did so from the install on
+  pub headline_round : (course : Course) (site : Site) (before mid now : List (Entry Site BuildFault)) (handed : List (Handed W S K U G)) (news : List (Worker W S K U G)) → IsLegal site_meaning opening before → (installs : Installs before mid site (listeners_of site) true) → Tells crew_before crew_now (GrowsBy handed) → (round : Round tells 0 mid now (staffed 0 handed) news) → (status ≡ 0 → AllByRecursion (λ (worker : Worker W S K U G). IsAtEnd worker.left) news)
+      → Takes course status handed (install_of site installs.answer ∷ round.added) → log_now ≡ log_before → ((added : List (Entry Site BuildFault)) → now ≡ before ++ added → Tells printed_before printed_now (Prints (lines_of course status added) (IsExcused sink_before sink_now status)))
+      → Headline tells course status crew_before crew_now log_before log_now printed_before printed_now sink_before sink_now before now (map (λ (worker : Worker W S K U G). worker.kit) news)
+  headline_round course site before mid now handed news legal installs crew round ends takes log printed =
+      let first = install_of site installs.answer in
       let start = after site_meaning (state_after before) first in
       let state : state_after mid ≡ start = ap state_after installs.grows ∙ run-append site_meaning opening before (first ∷ []) in
-      let whole : placed site_meaning (state_after mid) goes.added ≡ placed site_meaning start goes.added = ap (λ (s : ServerState Site). placed site_meaning s goes.added) state in
-      let mine = of_worker 0 (placed site_meaning start goes.added) in
-      let same : placed site_meaning (state_after mid) goes.added ≡ mine = whole ∙ sym (of_worker-own site_meaning 0 start goes.added goes.own) in
-      let told : Told tells 0 handed.listen (record handed.kit { listener = 0 }) kit mine =
-      subst (λ (ps : List (Placed Site BuildFault)). Told tells 0 handed.listen (record handed.kit { listener = 0 }) kit ps) same goes.told in
-      let grows : now ≡ before ++ (first ∷ goes.added) = goes.grows ∙ ap (λ h. h ++ goes.added) installs.grows ∙ append_assoc before (first ∷ []) goes.added in
-      let rest : IsLegal site_meaning start goes.added = subst (λ (s : ServerState Site). IsLegal site_meaning s goes.added) state goes.legal in
+      let grows : now ≡ before ++ (first ∷ round.added) = round.grows ∙ ap (λ h. h ++ round.added) installs.grows ∙ append_assoc before (first ∷ []) round.added in
+      let rest : IsLegal site_meaning start round.added = subst (λ (s : ServerState Site). IsLegal site_meaning s round.added) state round.legal in
+      let each = subst (λ (s : ServerState Site). EachWorks tells (λ worker. of_worker worker (placed site_meaning s round.added)) 0 (staffed 0 handed) news) state round.each in
       record {
-        added = first ∷ goes.added;
+        added = first ∷ round.added;
         begins = grows;
-        legal_history = legal_all before now (first ∷ goes.added) legal grows (installs.legal.0, rest);
-        repeats = keeps_replies site_meaning now (legal_all before now (first ∷ goes.added) legal grows (installs.legal.0, rest));
-        whole = subst IsClosed whole goes.told.closed;
-        handed = handed ∷ [];
+        legal_history = legal_all before now (first ∷ round.added) legal grows (installs.legal.0, rest);
+        repeats = keeps_replies site_meaning now (legal_all before now (first ∷ round.added) legal grows (installs.legal.0, rest));
+        whole = subst (λ (s : ServerState Site). IsClosed (placed site_meaning s round.added)) state round.whole;
+        handed = handed;
         handed_out = crew;
-        named = (inl refl, named-own 1 goes.added goes.own);
-        loads = ((installs.answer, refl), inl (ap (λ (call : Call). call ∷ []) called));
-        served_in_order = (
-          record {
-            received = told.served_in_order;
-            own = told.own;
-            closed = told.closed;
-          },
-          tt,
-        );
-        replies_in_order = (
-          record {
-            sent = told.replies_in_order;
-            each = each_one_reply site_meaning mine (may_own site_meaning 0 (placed site_meaning start goes.added) (may_all site_meaning start goes.added rest)) told.closed;
-          },
-          tt,
-        );
-        outcomes = (record { moments = told.moments_in_order; words = told.words; drawn = told.words_in_order; outcomes = told.outcomes }, tt);
-        appends = (told.shelf, tt);
-        control = (
-          record {
-            left = left;
-            leaves = subst (λ (ps : List (Placed Site BuildFault)). Leaves tells left handed.kit.wire kit.wire ps) same goes.leaves;
-            at_end = at_end;
-          },
-          tt,
-        );
+        named = (inl refl, named_among (length (staffed 0 handed)) (length handed) round.added (length_staffed 0 handed) round.among);
+        loads = takes;
+        told = each_worked (λ worker. of_worker worker (placed site_meaning start round.added)) 0 handed news
+            (λ k closed. each_one_reply site_meaning (of_worker k (placed site_meaning start round.added)) (may_own site_meaning k (placed site_meaning start round.added) (may_all site_meaning start round.added rest)) closed)
+            each ends;
         session_log = log;
-        printed_lines = printed (first ∷ goes.added) grows;
+        printed_lines = printed (first ∷ round.added) grows;
       }

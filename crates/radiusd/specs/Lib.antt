@@ -3,7 +3,10 @@ pub use Rattle.rad_serve.specs.HubSeen
 pub use Rattle.rad_serve.specs.Told
 pub use Rattle.rad_serve.specs.Leaving
 pub use Rattle.rad_serve.specs.Counting
+pub use Rattle.rad_serve.specs.Rounds
 pub mod Loading
+pub mod Kits
+pub mod Hiring
 pub mod OrderSeen
 pub mod Words
 pub mod ExitStatuses
@@ -11,4 +14,6 @@ pub mod Lines
 pub mod Printing
 pub mod Course
 pub mod Headline
+pub mod ServedSite
+pub mod Ending
 pub mod Statuses

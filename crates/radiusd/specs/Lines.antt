@@ -1,6 +1,7 @@
 -- The lines that the server prints. The texts are this project's own.
 use Rattle.std.specs.Prelude.{ℕ, ◌/◌, ◌%◌, ◌++◌, List, [], ◌∷◌, codes}
 use Rattle.std.specs.Fmt.{decimal}
+use Rattle.rad_outside.specs.declared.listen.Listen.{Listen}
 use Rattle.rad_outside.specs.declared.listen.Peer.{Peer}
 use Rattle.rad_serve.specs.declared.counts.Counts.{Counts}
 
@@ -13,6 +14,11 @@ dotted addr = decimal (addr / 16777216) ++ codes "." ++ decimal (addr / 65536 % 
 abbrev pub listening_line : List ℕ → Peer → List ℕ
 listening_line server at = codes "listening " ++ server ++ codes " " ++ dotted at.addr ++ codes ":" ++ decimal at.port
     ++ codes " auth workers 1" ++ 10 ∷ []
+
+-- The lines of listeners, in order.
+abbrev pub listening_lines : List Listen → List ℕ
+listening_lines [] = []
+listening_lines (listen ∷ more) = listening_line listen.server listen.at ++ listening_lines more
 
 -- `requests N replies N reloads N refused N`
 abbrev pub counts_line : Counts → List ℕ

@@ -5,8 +5,11 @@
 #![tactic(auto)]
 
 mod checking;
+mod ending;
+mod hiring;
 mod install;
 mod lines;
+mod listening;
 mod order;
 mod printing;
 mod site;

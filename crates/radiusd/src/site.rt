@@ -1,136 +1,129 @@
-ghost use Rattle.std.specs.Prelude.{◌≡◌, ◌≤◌, ◌⊎◌, ◌++◌, [], Some, IfErr, OnOk, IsTrue};
+ghost use Rattle.std.specs.Prelude.{◌≡◌, ◌≤◌, ◌<◌, ◌+◌, ◌⊎◌, ◌^◌, [], length, IsSome, IsTrue};
 ghost use Rattle.std.specs.List.{AllByRecursion};
-ghost use Rattle.rad_outside.specs.Telling.{Tells, Rose};
-ghost use Rattle.radiusd.specs.Course.{Serving, IsExcused, HasDeafWire, status_line};
-ghost use Rattle.radiusd.specs.Headline.{Headline};
+ghost use Rattle.rad_outside.specs.Telling.{Rose};
 ghost use Rattle.rad_serve.specs.History.{state_after, IsFull};
-ghost use Rattle.rad_serve.specs.Leaving.{IsAtEnd};
-ghost use Rattle.radiusd.specs.Lines.{listening_line, counts_line};
-ghost use Rattle.radiusd.specs.Printing.{Prints, PrintsWhole, IsCutShort};
+ghost use Rattle.radiusd.specs.Course.{Serving, Unserved, HasDeafWire};
 ghost use Rattle.radiusd.specs.ExitStatuses.{IsServing, number_of};
+ghost use Rattle.radiusd.specs.Headline.{Headline};
+ghost use Rattle.radiusd.specs.Hiring.{IsFresh};
+ghost use Rattle.radiusd.specs.ServedSite.{IsAuth, Mans, PrintsServing, StaffServes, StaffFails};
 
+use crate::ending::{close, end_unserved, gravest};
+use crate::hiring::{hand_back, hire};
 use crate::install::install;
-use crate::lines::{counts_line, listening_line};
-use crate::printing::say;
+use crate::listening::say_listeners;
 use crate::status::Status;
-use rad_outside::{Clock, Crew, Gate, Kit, KitFault, Listen, Luck, Octets, Shelf, Sink, Wire};
-use rad_serve::{Counts, Hub, Left, WORKER, counts_between, serve};
+use rad_outside::{Clock, Crew, Gate, Kit, Listen, Luck, Shelf, Sink, Wire};
+use rad_serve::{Hub, Tally, Worker, counts_between, serve};
 use rad_site::Generation;
 use std::alloc::Global;
 use std::sync::Wait;
 
-/// What is printed where a socket couldn't be had, or a worker was deaf.
-const SOCKET_FAULT: &[u8] = b"socket fault\n";
-
-/// What is printed where the history is full.
-const WORN: &[u8] = b"worn 4611686018427387904\n";
-
-/// Prints the line of a listener.
-fn say_listening<O: Sink>(alloc: Global, out: &mut O, listen: &Listen) -> Result<(), Status>
-    ensures ok { OnOk result (Tells (O.told out.old) (O.told out.new)
-        (PrintsWhole (listening_line listen.now.server listen.now.at))) }
-    ensures err { IfErr result (IsCutShort (listening_line listen.now.server listen.now.at)
-        (O.told out.old) (O.told out.new) (O.faults out.old) (O.faults out.new)) }
-    ensures later { O.faults out.old ≤ O.faults out.new }
-{
-    match listening_line(alloc, listen.server.as_slice(), listen.at) {
-        Ok(line) => match say(out, line.as_slice()) {
-            Ok(()) => Ok(()),
-            Err(status) => Err(status),
-        },
-        Err(_) => Err(Status::NoMemory),
-    }
-}
-
-/// Prints the counts of a run whose status has a line of its own, and that line.
-fn close_failed<O: Sink>(out: &mut O, counts: &Octets, line: &[u8])
-    ensures printed { Tells (O.told out.old) (O.told out.new) (Prints (counts.now ++ line.now)
-        (Rose (O.faults out.old) (O.faults out.new))) }
-    ensures later { O.faults out.old ≤ O.faults out.new }
-{
-    match say(out, counts.as_slice()) {
-        Ok(()) => {
-            let _ = say(out, line);
-        }
-        Err(_) => {}
-    }
-}
-
-/// Prints the counts of a run whose worker came to its end.
-fn close_served<O: Sink>(out: &mut O, counts: &Octets) -> Status
-    ensures printed { Tells (O.told out.old) (O.told out.new) (Prints counts.now
-        (Rose (O.faults out.old) (O.faults out.new))) }
-    ensures status { (result ≡ Status.Done) ⊎ ((result ≡ Status.PrintFault) × Rose (O.faults out.old) (O.faults out.new)) }
-    ensures later { O.faults out.old ≤ O.faults out.new }
-{
-    match say(out, counts.as_slice()) {
-        Ok(()) => Status::Done,
-        Err(status) => status,
-    }
-}
-
-/// Prints the counts of a run, and what else stands at the end of one whose worker left so.
-fn close<O: Sink>(alloc: Global, out: &mut O, counts: Counts, left: Left) -> Status
-    ensures printed { Tells (O.told out.old) (O.told out.new) (Prints (counts_line counts ++ status_line (number_of result))
-        (IsExcused (O.faults out.old) (O.faults out.new) (number_of result))) }
+/// Serves workers of listeners, whose lines are printed first, until each has left, and hands their kits back.
+fn serve_workers<R, W, S, K, U, G, L, O>(
+    rt: &R,
+    alloc: Global,
+    listeners: &[Listen],
+    before: Tally,
+    loaded: Tally,
+    workers: Vec<Worker<W, S, K, U, G>>,
+    kits: &mut Vec<Kit<W, S, K, U, G>>,
+    hub: &mut Hub<L>,
+    out: &mut O,
+) -> Status
+where
+    R: Wait,
+    W: Wire + Drop,
+    S: Shelf + Drop,
+    K: Clock + Drop,
+    U: Luck + Drop,
+    G: Gate + Drop,
+    L: Shelf,
+    O: Sink,
+    requires kits { kits.old.items ≡ [] }
+    requires room { vec_len kits.old + length workers.items ≤ vec_capacity kits.old }
+    requires installed { IsSome (state_after hub.old.history).present }
+    requires few { length workers.items < 2 ^ 32 }
+    requires fresh { AllByRecursion (IsFresh W.failures_in_a_row) workers.items }
+    ensures mans { Mans (record { wire = W.told; clock = K.told; luck = U.told; failures = W.failures_in_a_row; has_ended = W.has_ended })
+        result hub.old.history hub.new.history workers.items kits.new.items }
+    ensures printed { PrintsServing listeners.now before loaded hub.new.history result
+        (O.told out.old) (O.told out.new) (O.faults out.old) (O.faults out.new) }
     ensures serving { IsServing result }
-    ensures done { result ≡ Status.Done → IsAtEnd (Some left) }
-    ensures deaf { result ≡ Status.SocketFault → left ≡ Left.Deaf }
-    ensures worn { result ≡ Status.Worn → left ≡ Left.Worn }
-    ensures fault { result ≡ Status.PrintFault → Rose (O.faults out.old) (O.faults out.new) }
-    ensures later { O.faults out.old ≤ O.faults out.new }
+    ensures over { result ≡ Status.Done → IsTrue (state_after hub.new.history).is_stopped
+        ⊎ AllByRecursion (λ kit. IsTrue (W.has_ended kit.wire)) kits.new.items }
+    ensures deaf { result ≡ Status.SocketFault → HasDeafWire W.failures_in_a_row kits.new.items }
+    ensures print { result ≡ Status.PrintFault → Rose (O.faults out.old) (O.faults out.new) }
+    ensures worn { result ≡ Status.Worn → IsFull hub.new.history }
+    ensures origin { hub.new.origin ≡ hub.old.origin }
 {
-    let Ok(counts) = counts_line(alloc, counts) else {
+    let mut workers = workers;
+    if let Err(status) = say_listeners(alloc, out, listeners) {
+        hand_back(workers, kits);
+        return status;
+    }
+    serve(rt, hub, workers.as_mut_slice());
+    let left = gravest(workers.as_slice());
+    hand_back(workers, kits);
+    let counts = counts_between(before, loaded, hub.tally());
+    close(alloc, out, counts, left)
+}
+
+/// Serves the listeners of the generation that is installed: takes a kit for each, in order, and serves them until their workers
+/// leave.
+fn serve_listeners<R, W, S, K, U, G, C, L, O>(
+    rt: &R,
+    alloc: Global,
+    listeners: &[Listen],
+    before: Tally,
+    loaded: Tally,
+    crew: &mut C,
+    kits: &mut Vec<Kit<W, S, K, U, G>>,
+    hub: &mut Hub<L>,
+    out: &mut O,
+) -> Status
+where
+    R: Wait,
+    W: Wire + Drop,
+    S: Shelf + Drop,
+    K: Clock + Drop,
+    U: Luck + Drop,
+    G: Gate + Drop,
+    C: Crew<W, S, K, U, G>,
+    L: Shelf,
+    O: Sink,
+    requires kits { kits.old.items ≡ [] }
+    requires installed { IsSome (state_after hub.old.history).present }
+    requires few { length listeners.now < 2 ^ 32 }
+    requires auth { AllByRecursion IsAuth listeners.now }
+    ensures staff { StaffServes (record { wire = W.told; clock = K.told; luck = U.told; failures = W.failures_in_a_row; has_ended = W.has_ended })
+        listeners.now before loaded result hub.old.history hub.new.history kits.new.items (C.told crew.old) (C.told crew.new)
+        (O.told out.old) (O.told out.new) (O.faults out.old) (O.faults out.new)
+        ⊎ StaffFails listeners.now result hub.old.history hub.new.history kits.new.items (C.told crew.old) (C.told crew.new)
+        (O.told out.old) (O.told out.new) (O.faults out.old) (O.faults out.new) }
+    ensures serving { IsServing result }
+    ensures over { result ≡ Status.Done → IsTrue (state_after hub.new.history).is_stopped
+        ⊎ AllByRecursion (λ kit. IsTrue (W.has_ended kit.wire)) kits.new.items }
+    ensures socket { result ≡ Status.SocketFault → Rose (C.faults crew.old) (C.faults crew.new)
+        ⊎ HasDeafWire W.failures_in_a_row kits.new.items }
+    ensures print { result ≡ Status.PrintFault → Rose (O.faults out.old) (O.faults out.new) }
+    ensures worn { result ≡ Status.Worn → IsFull hub.new.history }
+    ensures origin { hub.new.origin ≡ hub.old.origin }
+{
+    if kits.reserve(listeners.len()).is_err() {
         return Status::NoMemory;
-    };
-    match left {
-        Left::Stopped | Left::Ended => close_served(out, &counts),
-        Left::Deaf => {
-            close_failed(out, &counts, SOCKET_FAULT);
-            Status::SocketFault
-        }
-        Left::Worn => {
-            close_failed(out, &counts, WORN);
-            Status::Worn
+    }
+    let mut workers = Vec::new(alloc);
+    match hire(alloc, crew, listeners, 0, &mut workers) {
+        Ok(()) => serve_workers(rt, alloc, listeners, before, loaded, workers, kits, hub, out),
+        Err(status) => {
+            hand_back(workers, kits);
+            end_unserved(out, status)
         }
     }
 }
 
-/// The status of a crew that handed out no kit.
-fn status_of(fault: KitFault) -> Status
-    ensures { ((result ≡ Status.SocketFault) × (fault ≡ KitFault.Failed)) ⊎ (result ≡ Status.NoMemory) }
-{
-    match fault {
-        KitFault::NoMemory => Status::NoMemory,
-        KitFault::Failed => Status::SocketFault,
-    }
-}
-
-/// Prints the line of the status of a run that has no kit, if it has one.
-fn end_without_kit<O: Sink>(out: &mut O, ended: Status) -> Status
-    ensures printed { Tells (O.told out.old) (O.told out.new) (Prints (status_line (number_of ended))
-        (IsExcused (O.faults out.old) (O.faults out.new) (number_of ended))) }
-    ensures status { result ≡ ended }
-    ensures later { O.faults out.old ≤ O.faults out.new }
-{
-    match ended {
-        Status::SocketFault => {
-            let _ = say(out, SOCKET_FAULT);
-        }
-        Status::Worn => {
-            let _ = say(out, WORN);
-        }
-        Status::Done
-        | Status::Words
-        | Status::Configuration
-        | Status::ReadFault
-        | Status::PrintFault
-        | Status::NoMemory => {}
-    }
-    ended
-}
-
-/// Serves a site: installs its generation, takes a kit for its listener and serves it until its worker leaves.
+/// Serves a site: installs its generation, takes a kit for each of its listeners and serves them until their workers leave.
 pub(crate) fn serve_site<R, W, S, K, U, G, C, L, O>(
     rt: &R,
     alloc: Global,
@@ -153,6 +146,9 @@ where
     requires { kits.old.items ≡ [] }
     ensures headline { Headline (record { wire = W.told; clock = K.told; luck = U.told; failures = W.failures_in_a_row; has_ended = W.has_ended })
         (Serving generation) (number_of result) (C.told crew.old) (C.told crew.new) hub.old.origin hub.new.origin
+        (O.told out.old) (O.told out.new) (O.faults out.old) (O.faults out.new) hub.old.history hub.new.history kits.new.items
+        ⊎ Headline (record { wire = W.told; clock = K.told; luck = U.told; failures = W.failures_in_a_row; has_ended = W.has_ended })
+        (Unserved generation) (number_of result) (C.told crew.old) (C.told crew.new) hub.old.origin hub.new.origin
         (O.told out.old) (O.told out.new) (O.faults out.old) (O.faults out.new) hub.old.history hub.new.history kits.new.items }
     ensures serving { IsServing result }
     ensures over { result ≡ Status.Done → IsTrue (state_after hub.new.history).is_stopped
@@ -163,25 +159,21 @@ where
     ensures worn { result ≡ Status.Worn → IsFull hub.new.history }
 {
     let before = hub.tally();
-    let listen = match install(rt, alloc, hub, generation) {
-        Ok(listen) => listen,
-        Err(status) => return end_without_kit(out, status),
-    };
-    let loaded = hub.tally();
-    if kits.reserve(1).is_err() {
-        return Status::NoMemory;
+    match install(rt, alloc, hub, generation) {
+        Err(status) => end_unserved(out, status),
+        Ok(listeners) => {
+            let loaded = hub.tally();
+            serve_listeners(
+                rt,
+                alloc,
+                listeners.as_slice(),
+                before,
+                loaded,
+                crew,
+                kits,
+                hub,
+                out,
+            )
+        }
     }
-    let mut kit = match crew.kit(alloc, WORKER, &listen, None) {
-        Ok(kit) => kit,
-        Err(fault) => return end_without_kit(out, status_of(fault)),
-    };
-    kit.listener = 0;
-    if let Err(status) = say_listening(alloc, out, &listen) {
-        kits.push_reserved(kit);
-        return status;
-    }
-    let left = serve(rt, hub, &mut kit, &listen);
-    kits.push_reserved(kit);
-    let counts = counts_between(before, loaded, hub.tally());
-    close(alloc, out, counts, left)
 }

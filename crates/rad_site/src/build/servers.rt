@@ -1,6 +1,6 @@
 //! The virtual servers of a configuration: their names and their listeners.
 
-ghost use Rattle.std.specs.Prelude.{◌≡◌, Ok, is_nil};
+ghost use Rattle.std.specs.Prelude.{◌≡◌, ◌==◌, Ok, length};
 ghost use Rattle.std.specs.Str.{bytes_eq};
 ghost use Rattle.rad_site.specs.Nodes.{Gives, after_each};
 ghost use Rattle.rad_site.specs.ServerBlocks.{has_name, is_built, with_listener, few_listeners, and_listener, is_later, with_listen, with_item, and_name, few_enough, with_named, with_server, servers_in};
@@ -9,8 +9,9 @@ use crate::build::item::{is_block, is_section, named_block, nodes_of};
 use crate::build::listen::{Bound, listener_of};
 use crate::build::refusal::{refuse, refuse_setting};
 use crate::fault::BuildFault;
+use crate::generation::Listener;
 use rad_conf::Node;
-use rad_outside::{Listen, ListenKind, Octets, Place};
+use rad_outside::{ListenKind, Octets, Place};
 use sqlite_items::Items;
 use std::alloc::Global;
 
@@ -27,12 +28,12 @@ const MOST_WORKERS: u64 = 64;
 #[derive(Debug, Drop)]
 pub(crate) struct Servers {
     names: Items<Octets>,
-    listeners: Items<Listen>,
+    listeners: Items<Listener>,
 }
 
 impl Servers {
     /// Their listeners, in order.
-    pub(crate) fn into_listeners(self) -> Items<Listen>
+    pub(crate) fn into_listeners(self) -> Items<Listener>
         ensures { result ≡ self.listeners }
     {
         let Servers {
@@ -44,7 +45,7 @@ impl Servers {
 
     /// Whether they have no listener.
     pub(crate) fn is_deaf(&self) -> bool
-        ensures { result ≡ is_nil self.now.listeners }
+        ensures { result ≡ (length self.now.listeners == 0) }
     {
         self.listeners.len() == 0
     }
@@ -86,9 +87,8 @@ fn with_listener(
         names,
         mut listeners,
     } = known;
-    listeners.push(Listen {
+    listeners.push(Listener {
         server: Octets::of(alloc, name)?,
-        kind: bound.kind,
         at: bound.at,
     })?;
     Ok(Servers { names, listeners })
@@ -245,12 +245,7 @@ fn with_named(
 
 /// The servers after one more item of the top.
 #[tactic(auto, unfolding(crate::specs::ServerBlocks::with_server))]
-fn with_server(
-    alloc: Global,
-    per: u32,
-    known: Servers,
-    node: &Node,
-) -> Result<Servers, BuildFault>
+fn with_server(alloc: Global, per: u32, known: Servers, node: &Node) -> Result<Servers, BuildFault>
     ensures { Gives result (with_server per known node.now) }
 {
     if !is_block(b"server", node) {

@@ -18,13 +18,13 @@ use crate::build::refusal::{refuse, refuse_setting};
 use crate::build::servers::{Servers, servers_in};
 use crate::build::settings::settings_in;
 use crate::fault::BuildFault;
-use crate::generation::Generation;
+use crate::generation::{Generation, Listener};
 use crate::policies::Policies;
 use crate::settings::Settings;
 use rad_clients::Clients;
 use rad_conf::{Conf, Node};
 use rad_dict::Dict;
-use rad_outside::{Files, Listen, Octets, Place};
+use rad_outside::{Files, Octets, Place};
 use sqlite_items::Items;
 use std::alloc::Global;
 
@@ -112,7 +112,7 @@ fn clients_in(alloc: Global, nodes: &[Node]) -> Result<Clients, BuildFault>
 
 /// The listeners of servers, of which there is one at least.
 #[tactic(auto, unfolding(crate::specs::ServerBlocks::listeners_of))]
-fn listeners_of(alloc: Global, servers: Servers) -> Result<Items<Listen>, BuildFault>
+fn listeners_of(alloc: Global, servers: Servers) -> Result<Items<Listener>, BuildFault>
     ensures { Gives result (listeners_of whole_conf servers) }
 {
     if servers.is_deaf() {
@@ -129,7 +129,7 @@ fn parts_in(
     dict: &Dict,
     modules: Modules,
     conf: &Conf,
-) -> Result<(Policies, Items<Listen>), BuildFault>
+) -> Result<(Policies, Items<Listener>), BuildFault>
     ensures { Gives result (parts_in per dict.now modules conf.now) }
 {
     let servers = servers_in(alloc, per, conf.root().as_slice())?;

@@ -1,4 +1,4 @@
-use Rattle.std.proofs.Common.{ℕ, List, sym, ◌∙◌, subst}
+use Rattle.std.proofs.Common.{List, inr, ap, sym, ◌∙◌, subst}
 use Rattle.rad_turn.specs.Sides.{view}
 use Rattle.rad_core.specs.declared.started.Started.{Started}
 use Rattle.rad_core.specs.declared.entry.Entry.{Entry}
@@ -12,6 +12,8 @@ use Rattle.rad_site.specs.declared.fault.BuildFault.{BuildFault}
 use Rattle.rad_site.specs.Site.{Site}
 use Rattle.rad_site.specs.Meaning.{site_meaning}
 use Rattle.rad_serve.specs.History.{state_after}
+use Rattle.rad_turn.specs.Names.{is_out}
+use Rattle.rad_serve.proofs.Kept.{alone_acts}
 use Rattle.rad_serve.proofs.Turns.{turn_at_once, counts_at_once, fits_at_once, turn_fresh, counts_fresh, is_held, authentic_at_place}
 use Rattle.rad_serve.proofs.turn.take_turn.Goals as goal
 
@@ -38,8 +40,8 @@ access-outcome-requires-clause-authentic g c =
     let step = (alone_adds site_meaning v m c.requires.alone.name c.requires.alone.out _ adds).1 in
     subst (λ (site : Site). IsAuthenticUnder site_meaning site arrival) (sym c.deref.ensures) (authentic_at_place (state_after v.seen) mid arrival c.in-Ok-ticket_of.ticket ticket.0 step)
 
-pub finish-requires-clause-finds : goal.finish-requires-clause-finds
-finish-requires-clause-finds g c =
+pub finish_as-requires-clause-finds : goal.finish_as-requires-clause-finds
+finish_as-requires-clause-finds g c =
     let arrival = arrived_of c.args.arrival.now in
     let v = view c.args.seat.now in
     let m = view c.start.new.seat in
@@ -52,31 +54,36 @@ finish-requires-clause-finds g c =
     let step = (alone_adds site_meaning v m c.requires.alone.name c.requires.alone.out _ adds).1 in
     let given = subst (λ (site : Site). GivesOutcome site_meaning site arrival c.in-Ok-ticket_of.ticket.moment c.args.luck c.access-outcome.result) c.deref.ensures c.access-outcome.ensures.outcome in
     λ log legal learns short.
-    subst (λ (l : List (Entry Site BuildFault)). IsHeld site_meaning (state_after l) c.in-Ok-ticket_of.ticket m.name (ending_seen c.access-outcome.result)) (sym (learns.alone name out))
-    (subst (λ (n : ℕ). IsHeld site_meaning mid c.in-Ok-ticket_of.ticket n (ending_seen c.access-outcome.result)) (c.requires.worker ∙ sym name)
-    (is_held old mid arrival c.in-Ok-ticket_of.ticket c.args.luck c.access-outcome.result ticket.0 ticket.1 step given))
+    subst (λ (l : List (Entry Site BuildFault)). IsHeld site_meaning (state_after l) c.in-Ok-ticket_of.ticket c.args.arrival.now.worker (ending_seen c.access-outcome.result)) (sym (learns.alone name out))
+    (is_held old mid arrival c.in-Ok-ticket_of.ticket c.args.luck c.access-outcome.result ticket.0 ticket.1 step given)
 
-pub returns-in-Ok-finish-clause-turn : goal.returns-in-Ok-finish-clause-turn
-returns-in-Ok-finish-clause-turn g c =
+pub start-requires-clause-worker : goal.start-requires-clause-worker
+start-requires-clause-worker g c = alone_acts (view c.args.seat.now) c.args.arrival.now.worker c.requires.alone
+
+pub finish_as-requires-clause-acts : goal.finish_as-requires-clause-acts
+finish_as-requires-clause-acts g c = inr (c.in-Ok.ensures.same.name ∙ c.requires.alone.name, ap (is_out c.args.arrival.now.worker) (c.in-Ok.ensures.same.out ∙ c.requires.alone.out))
+
+pub returns-in-Ok-finish_as-clause-turn : goal.returns-in-Ok-finish_as-clause-turn
+returns-in-Ok-finish_as-clause-turn g c =
     let arrival = arrived_of c.args.arrival.now in
     let v = view c.args.seat.now in
     let m = view c.start.new.seat in
-    let w = view c.finish.new.seat in
+    let w = view c.finish_as.new.seat in
     let mid = state_after m.seen in
     let name = c.in-Ok.ensures.same.name ∙ c.requires.alone.name in
     let out = c.in-Ok.ensures.same.out ∙ c.requires.alone.out in
     let ticket = subst (λ (s : Started Site). IsTicketOf mid s) c.in-Ok-ticket_of.ensures.fresh c.in-Ok.ensures.ticket in
     let adds = subst (λ (s : Started Site). TurnAdds site_meaning v m (Start arrival (answer_seen s c.start.new.reply))) c.in-Ok-ticket_of.ensures.fresh c.in-Ok.ensures.had in
     let given = subst (λ (site : Site). GivesOutcome site_meaning site arrival c.in-Ok-ticket_of.ticket.moment c.args.luck c.access-outcome.result) c.deref.ensures c.access-outcome.ensures.outcome in
-    turn_fresh v m w arrival c.in-Ok-ticket_of.ticket c.args.luck c.access-outcome.result c.copied-reply.result c.copied-reply.new.buffer c.requires.alone name out c.requires.worker adds ticket.0 ticket.1 given c.in-Ok-finish.ensures.had c.copied-reply.ensures.reply
+    turn_fresh v m w arrival c.in-Ok-ticket_of.ticket c.args.luck c.access-outcome.result c.copied-reply.result c.copied-reply.new.buffer c.requires.alone name out adds ticket.0 ticket.1 given c.in-Ok-finish_as.ensures.had c.copied-reply.ensures.reply
 
-pub returns-in-Ok-finish-clause-counts : goal.returns-in-Ok-finish-clause-counts
-returns-in-Ok-finish-clause-counts g c =
+pub returns-in-Ok-finish_as-clause-counts : goal.returns-in-Ok-finish_as-clause-counts
+returns-in-Ok-finish_as-clause-counts g c =
     let arrival = arrived_of c.args.arrival.now in
     let v = view c.args.seat.now in
     let m = view c.start.new.seat in
-    let w = view c.finish.new.seat in
+    let w = view c.finish_as.new.seat in
     let name = c.in-Ok.ensures.same.name ∙ c.requires.alone.name in
     let out = c.in-Ok.ensures.same.out ∙ c.requires.alone.out in
     let adds = subst (λ (s : Started Site). TurnAdds site_meaning v m (Start arrival (answer_seen s c.start.new.reply))) c.in-Ok-ticket_of.ensures.fresh c.in-Ok.ensures.had in
-    counts_fresh v m w arrival c.in-Ok-ticket_of.ticket c.args.luck c.access-outcome.result c.copied-reply.result c.copied-reply.new.buffer c.requires.alone name out adds c.in-Ok-finish.ensures.had c.copied-reply.ensures.reply
+    counts_fresh v m w arrival c.in-Ok-ticket_of.ticket c.args.luck c.access-outcome.result c.copied-reply.result c.copied-reply.new.buffer c.requires.alone name out adds c.in-Ok-finish_as.ensures.had c.copied-reply.ensures.reply

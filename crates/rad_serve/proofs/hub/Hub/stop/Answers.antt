@@ -7,18 +7,21 @@ use Rattle.rad_site.specs.declared.fault.BuildFault.{BuildFault}
 use Rattle.rad_site.specs.Site.{Site}
 use Rattle.rad_serve.specs.HubSeen.{HubSeen}
 use Rattle.rad_serve.proofs.Tallies.{tally_still}
-use Rattle.rad_serve.proofs.Kept.{grows, stepped, kept_one}
+use Rattle.rad_serve.proofs.Kept.{grows, stepped, kept_one, alone_acts}
 use Rattle.rad_serve.proofs.hub.Hub.stop.Goals as goal
 
 pub invariant_of-self : goal.invariant_of-self
 invariant_of-self g c =
     let v = view c.self.inside.seat in
-    let w = view c.stop.new.seat in
-    let entry : Entry Site BuildFault = Stop v.name in
+    let w = view c.stop_as.new.seat in
+    let entry : Entry Site BuildFault = Stop c.args.worker in
     let alone = c.self.invariant.1 in
     let adds = c.in-Ok.ensures.had in
     let few = subst (λ (h : List (Entry Site BuildFault)). length h < 2 ^ 62) (sym (ap (λ (h : HubSeen _). h.history) c.self.view_is)) c.requires in
-    let kept = kept_one v w entry alone adds c.self.inside.length c.self.inside.tally c.self.inside.tally c.stop.ensures.same
+    let kept = kept_one v w entry alone adds c.self.inside.length c.self.inside.tally c.self.inside.tally c.stop_as.ensures.same
     (ap (λ (s : ServerState Site). s.table) (stepped v w entry alone adds).next) c.self.invariant.2 few
     (c.self.invariant.2.tally_is ∙ sym (tally_still v.seen w.seen entry (grows v w entry alone adds) refl refl refl refl)) in
-    (c.stop.ensures.own, kept.0, kept.1)
+    (c.stop_as.ensures.own, kept.0, kept.1)
+
+pub stop_as-requires-clause-acts : goal.stop_as-requires-clause-acts
+stop_as-requires-clause-acts g c = alone_acts (view c.self.inside.seat) c.args.worker c.self.invariant.1
