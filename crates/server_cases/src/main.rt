@@ -13,8 +13,9 @@ use shared_cases::{Form, Tally};
 use std::process::ExitCode;
 
 /// The files of cases.
-const FILES: [&str; 8] = [
+const FILES: [&str; 9] = [
     "serving.cases",
+    "listeners.cases",
     "repeats.cases",
     "failing.cases",
     "words.cases",

@@ -1,6 +1,6 @@
 //! Runs of the server over devices in memory.
 
-use crate::plan::Plan;
+use crate::plan::{KitPlan, Plan};
 use crate::script::{Script, script_of};
 use crate::transcript::{push_log, push_run};
 use rad_edge::{ListClock, ListLuck, MemCrew, MemFiles, MemShelf, MemSink, MemWire, OpenGate};
@@ -70,29 +70,15 @@ fn run<R: Wait>(
     let Plan {
         words,
         maps,
-        script,
+        kits,
         from: _,
-        moments,
-        luck,
         failing_reads,
-        failing_receives,
-        failing_sends,
         failing_writes,
         failing_kits,
-        failing_appends,
-        has_kit,
     } = plan;
     let mut crew = MemCrew::new(alloc, failing_kits);
-    if has_kit {
-        crew.add(Kit {
-            listener: 0,
-            wire: MemWire::new(alloc, script, failing_receives, failing_sends),
-            control: None,
-            shelf: MemShelf::new(alloc, failing_appends),
-            clock: ListClock::new(moments),
-            luck: ListLuck::new(luck),
-            gate: OpenGate,
-        })?;
+    for kit in kits {
+        crew.add(kit_of(alloc, kit))?;
     }
     let mut files = MemFiles::new(maps, failing_reads);
     let out = MemSink::new(alloc, failing_writes);
@@ -106,6 +92,27 @@ fn run<R: Wait>(
         out,
         did,
     )
+}
+
+/// The kit of a plan. The number of its listener is none that a site has, since whoever asks for the kit says it.
+fn kit_of(alloc: Global, plan: KitPlan) -> MemKit {
+    let KitPlan {
+        script,
+        moments,
+        luck,
+        failing_receives,
+        failing_sends,
+        failing_appends,
+    } = plan;
+    Kit {
+        listener: 99,
+        wire: MemWire::new(alloc, script, failing_receives, failing_sends),
+        control: None,
+        shelf: MemShelf::new(alloc, failing_appends),
+        clock: ListClock::new(moments),
+        luck: ListLuck::new(luck),
+        gate: OpenGate,
+    }
 }
 
 /// Runs the server over these devices, and writes what it did.

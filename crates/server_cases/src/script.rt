@@ -1,6 +1,6 @@
 //! A case's fields as runs.
 
-use crate::plan::Plan;
+use crate::plan::{KitPlan, Plan};
 use rad_edge::Cue;
 use rad_outside::{NoMemory, Octets};
 use shared_cases::{Case, Field, decimal, hexadecimal, numbers, peer_of, texts, words};
@@ -64,20 +64,37 @@ fn take_of_run(alloc: Global, plan: &mut Plan, name: &[u8], text: &[u8]) -> Resu
         b"map" => plan.maps.push(Vec::new(alloc))?,
         b"words" => plan.words = texts(alloc, text)?,
         b"from" => plan.from = peer_of(text),
+        b"kit" => plan.kits.push(KitPlan::new(alloc))?,
+        b"no-kit" => plan.kits.clear(),
+        b"gives" => {}
+        _ => return take_of_kit(alloc, plan, name, text),
+    }
+    Ok(true)
+}
+
+/// Takes a field of a run's last kit, if it is one.
+fn take_of_kit(alloc: Global, plan: &mut Plan, name: &[u8], text: &[u8]) -> Result<bool, NoMemory> {
+    let from = plan.from;
+    let Some(kit) = plan.kits.last_mut() else {
+        return take_numbers(alloc, plan, name, text);
+    };
+    match name {
         b"datagram" => {
             let octets = Octets::from_vec(hexadecimal(alloc, text)?);
-            plan.script.push(Cue::Datagram(octets, plan.from))?;
+            kit.script.push(Cue::Datagram(octets, from))?;
         }
-        b"quiet" => plan.script.push(Cue::Quiet)?,
-        b"no-kit" => plan.has_kit = false,
-        b"failing-appends" => plan.failing_appends = cuts_of(alloc, text)?,
-        b"gives" => {}
+        b"quiet" => kit.script.push(Cue::Quiet)?,
+        b"failing-appends" => kit.failing_appends = cuts_of(alloc, text)?,
+        b"moments" => kit.moments = numbers(alloc, text)?,
+        b"luck" => kit.luck = numbers(alloc, text)?,
+        b"failing-receives" => kit.failing_receives = numbers(alloc, text)?,
+        b"failing-sends" => kit.failing_sends = numbers(alloc, text)?,
         _ => return take_numbers(alloc, plan, name, text),
     }
     Ok(true)
 }
 
-/// Takes a field of numbers, if it is one.
+/// Takes a field of the run's numbers, if it is one.
 fn take_numbers(
     alloc: Global,
     plan: &mut Plan,
@@ -86,11 +103,7 @@ fn take_numbers(
 ) -> Result<bool, NoMemory> {
     let list = numbers(alloc, text)?;
     match name {
-        b"moments" => plan.moments = list,
-        b"luck" => plan.luck = list,
         b"failing-reads" => plan.failing_reads = list,
-        b"failing-receives" => plan.failing_receives = list,
-        b"failing-sends" => plan.failing_sends = list,
         b"failing-writes" => plan.failing_writes = list,
         b"failing-kits" => plan.failing_kits = list,
         _ => return Ok(false),

@@ -6,7 +6,8 @@ use rad_outside::{Append, NoMemory};
 use shared_cases::{push_hexadecimal, push_number, push_printed, push_sent};
 use std::alloc::Global;
 
-/// Writes a run: its status, the lines that it printed, its number of kits, and what each of these sent and appended.
+/// Writes a run: its status, the lines that it printed, its number of kits, and the number of each one's listener with what it sent
+/// and appended. The number of the first, 0, isn't written.
 pub fn push_run(
     alloc: Global,
     to: &mut Vec<u8>,
@@ -22,6 +23,11 @@ pub fn push_run(
     push_number(alloc, to, u64::try_from(kits.len()).unwrap_or(u64::MAX))?;
     to.push(b'\n')?;
     for kit in kits {
+        if kit.listener > 0 {
+            to.extend_from_slice(b"kit ")?;
+            push_number(alloc, to, u64::from(kit.listener))?;
+            to.push(b'\n')?;
+        }
         for sent in kit.wire.sent() {
             push_sent(alloc, to, sent)?;
         }
