@@ -137,6 +137,33 @@ module _ (a b : Option (List ℕ)) (before now : ℕ) (ended : Status) where
       (Prints-weaker a b lines (Rose before now ⊎ (ended ≡ status.NoMemory)) (IsExcused before now (number_of ended))
       (λ either. elim either [ inl rose ↦ inl rose | inr memory ↦ inr (ap number_of memory) ]) cut.printed)
 
+-- lines that were printed whole, one after another
+pub whole_behind : (a b c : Option (List ℕ)) (lines more : List ℕ) → Tells a b (PrintsWhole lines) → Tells b c (PrintsWhole more) → Tells a c (PrintsWhole (lines ++ more))
+whole_behind a b c lines more = Tells-trans (PrintsWhole (lines ++ more)) a b c (λ x y z first second. second ∙ ap (λ l. l ++ more) first ∙ append_assoc x lines more)
+
+-- no line
+pub whole_nothing : (told : Option (List ℕ)) → Tells told told (PrintsWhole [])
+whole_nothing told = Tells-same (PrintsWhole []) told (λ x. sym (append-nil x))
+
+-- why lines were cut short excuses it
+cut_excuse : (before now : ℕ) (ended : Status) → ((ended ≡ status.PrintFault) × Rose before now) ⊎ (ended ≡ status.NoMemory) → Rose before now ⊎ (ended ≡ status.NoMemory)
+cut_excuse before now ended cause = elim cause [ inl fault ↦ inl fault.1 | inr memory ↦ inr memory ]
+
+-- the first of some lines was cut short, and the others weren't printed
+pub cut_front : (a b : Option (List ℕ)) (before now : ℕ) (ended : Status) (lines more : List ℕ) → IsCutShort lines a b before now ended → IsCutShort (lines ++ more) a b before now ended
+cut_front a b before now ended lines more cut = record {
+  cause = cut.cause;
+  printed = Prints-followed a b lines more (Rose before now ⊎ (ended ≡ status.NoMemory)) (cut_excuse before now ended cut.cause) cut.printed;
+}
+
+-- the first of some lines was printed, and the others were cut short
+pub cut_behind : (a b c : Option (List ℕ)) (before mid now : ℕ) (ended : Status) (lines more : List ℕ) → before ≤ mid → Tells a b (PrintsWhole lines) → IsCutShort more b c mid now ended → IsCutShort (lines ++ more) a c before now ended
+cut_behind a b c before mid now ended lines more le whole cut = record {
+  cause = elim cut.cause [ inl fault ↦ inl (fault.0, Rose-since before mid now le fault.1) | inr memory ↦ inr memory ];
+  printed = Prints-behind a b c lines more (Rose before now ⊎ (ended ≡ status.NoMemory)) whole
+      (Prints-weaker b c more (Rose mid now ⊎ (ended ≡ status.NoMemory)) (Rose before now ⊎ (ended ≡ status.NoMemory)) (λ excuse. elim excuse [ inl rose ↦ inl (Rose-since before mid now le rose) | inr memory ↦ inr memory ]) cut.printed);
+}
+
 -- what is excused since is excused since earlier
 pub excused_since : (a b c ended : ℕ) → a ≤ b → IsExcused b c ended → IsExcused a c ended
 excused_since a b c ended le excuse = elim excuse [ inl rose ↦ inl (Rose-since a b c le rose) | inr memory ↦ inr memory ]

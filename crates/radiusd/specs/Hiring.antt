@@ -20,6 +20,13 @@ pub record IsFresh {W S K U G : Type 0} (failures : W → ℕ) (worker : Worker 
   pub counted : worker.failures ≡ 0
   pub serving : worker.left ≡ None
 
+-- A worker for this listener was hired, with the kit that the crew handed out for it.
+pub record HiresOne {W S K U G : Type 0} (number : ℕ) (listen : Listen) (old new : List (Worker W S K U G)) (crew_before crew_now : Option (List (Handed W S K U G))) : Type 0 where
+  pub handed : Handed W S K U G
+  pub told : Tells crew_before crew_now (GrowsBy (handed ∷ []))
+  pub workers : new ≡ old ++ staffed number (handed ∷ [])
+  pub call : call_of handed ≡ record { worker = number; listen = listen; control = None }
+
 -- A worker for each of these listeners was hired, with the kit that the crew handed out for it.
 pub record Hires {W S K U G : Type 0} (number : ℕ) (listeners : List Listen) (old new : List (Worker W S K U G)) (crew_before crew_now : Option (List (Handed W S K U G))) : Type 0 where
   pub handed : List (Handed W S K U G)

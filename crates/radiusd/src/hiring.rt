@@ -4,7 +4,7 @@ ghost use Rattle.std.specs.Prelude.{◌≡◌, ◌≤◌, ◌<◌, ◌+◌, ◌^
 ghost use Rattle.std.specs.List.{AllByRecursion};
 ghost use Rattle.rad_outside.specs.Telling.{Rose};
 ghost use Rattle.radiusd.specs.ServedSite.{IsAuth};
-ghost use Rattle.radiusd.specs.Hiring.{Hires, HiresSome, HiresNone, IsFresh};
+ghost use Rattle.radiusd.specs.Hiring.{Hires, HiresOne, HiresSome, HiresNone, IsFresh};
 
 use crate::status::Status;
 use rad_outside::{Clock, Crew, Gate, Kit, KitFault, Listen, Luck, NoMemory, Octets, Shelf, Wire};
@@ -48,7 +48,7 @@ where
     G: Gate + Drop,
     C: Crew<W, S, K, U, G>,
     requires auth { IsAuth listen.now }
-    ensures hired { OnOk result (Hires number (listen.now ∷ []) workers.old.items workers.new.items (C.told crew.old) (C.told crew.new)) }
+    ensures hired { OnOk result (HiresOne number listen.now workers.old.items workers.new.items (C.told crew.old) (C.told crew.new)) }
     ensures none { IfErr result (λ status. HiresNone workers.old.items workers.new.items (C.told crew.old) (C.told crew.new)
         × (((status ≡ Status.SocketFault) × Rose (C.faults crew.old) (C.faults crew.new)) ⊎ (status ≡ Status.NoMemory))) }
     ensures fresh { AllByRecursion (IsFresh W.failures_in_a_row) workers.old.items → AllByRecursion (IsFresh W.failures_in_a_row) workers.new.items }

@@ -2,7 +2,7 @@ use Rattle.std.proofs.Common.{ℕ, List, ◌++◌, subst}
 use Rattle.rad_outside.specs.Telling.{Rose, Tells}
 use Rattle.radiusd.specs.Printing.{Prints}
 use Rattle.radiusd.proofs.Printings.{Prints-behind, Prints-weaker, Prints-followed, Rose-since}
-use Rattle.radiusd.proofs.site.close_failed.Goals as goal
+use Rattle.radiusd.proofs.ending.close_failed.Goals as goal
 
 pub returns-in-Ok-clause-printed : goal.returns-in-Ok-clause-printed
 returns-in-Ok-clause-printed g c =
