@@ -4,6 +4,6 @@ pub mod Telling
 pub mod Tolds
 pub mod Leavings
 pub mod Passes
-pub mod Rounds
+pub mod RoundsJoined
 pub mod Installs
 pub mod Tallies

@@ -19,7 +19,7 @@ use Rattle.rad_serve.specs.History.{Installs}
 use Rattle.rad_serve.specs.Leaving.{IsAtEnd}
 use Rattle.rad_serve.specs.Rounds.{Round}
 use Rattle.rad_serve.specs.Told.{KitTells, GrowsBy}
-use Rattle.rad_serve.proofs.Rounds.{round_still}
+use Rattle.rad_serve.proofs.RoundsJoined.{round_still}
 use Rattle.rad_serve.proofs.Tallies.{between, counts_apart}
 use Rattle.radiusd.specs.declared.status.Status.{Status}
 use Rattle.radiusd.specs.declared.status.Status.TheVariants as status
