@@ -1,5 +1,5 @@
 -- The hub's invariant over what is added.
-use Rattle.std.proofs.Common.{ℕ, ◌≡◌, ◌<◌, ◌+◌, ◌^◌, ◌++◌, List, [], ◌∷◌, length, inr, ap, sym, ◌∙◌, arith}
+use Rattle.std.proofs.Common.{ℕ, ◌≡◌, ◌<◌, ◌+◌, ◌^◌, ◌++◌, [], ◌∷◌, length, inr, ap, sym, ◌∙◌, arith}
 use Rattle.rad_turn.specs.declared.view.View.{View}
 use Rattle.rad_turn.specs.Names.{is_out}
 use Rattle.rad_turn.specs.Views.{ActsAs, IsSameSeat}

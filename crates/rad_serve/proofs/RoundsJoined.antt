@@ -1,7 +1,6 @@
 -- Rounds of several workers, one after another.
-use Rattle.std.proofs.Common.{ℕ, suc, ◌≡◌, ◌≤◌, ◌<◌, ◌+◌, ◌++◌, List, [], ◌∷◌, length, length-append, cond, Result, Ok, Err, Option, Some, None, refl, ap, sym, ◌∙◌, subst, append-nil, append_assoc, ne_eqb, IsTrue, arith}
+use Rattle.std.proofs.Common.{ℕ, suc, ◌≡◌, ◌≤◌, ◌+◌, ◌++◌, List, [], ◌∷◌, length, length-append, cond, Result, Ok, Err, Option, Some, None, refl, ap, sym, ◌∙◌, subst, append-nil, append_assoc, ne_eqb, IsTrue, arith}
 use Rattle.std.specs.List.{AllByRecursion}
-use Rattle.rad_outside.specs.declared.crew.Kit.{Kit}
 use Rattle.rad_outside.specs.declared.listen.Listen.{Listen}
 use Rattle.rad_policy.specs.declared.arrival.Arrived.{Arrived}
 use Rattle.rad_core.specs.declared.started.StartAnswer.{StartAnswer}
@@ -19,7 +18,6 @@ use Rattle.rad_site.specs.declared.fault.BuildFault.{BuildFault}
 use Rattle.rad_site.specs.Site.{Site}
 use Rattle.rad_site.specs.Meaning.{site_meaning}
 use Rattle.rad_serve.specs.declared.left.Left.{Left}
-use Rattle.rad_serve.specs.declared.left.Left.TheVariants as leaving
 use Rattle.rad_serve.specs.declared.worker.Worker.{Worker}
 use Rattle.rad_serve.specs.History.{state_after, IsFull}
 use Rattle.rad_serve.specs.Told.{KitTells, Told}

@@ -17,7 +17,7 @@ use Rattle.unlang_tree.specs.Policies.{policies_of}
 use Rattle.rad_site.specs.declared.fault.BuildFault.{BuildFault}
 use Rattle.rad_site.specs.declared.generation.Listener.{Listener}
 use Rattle.rad_site.specs.Site.{Site}
-use Rattle.rad_site.specs.Nodes.{◌>>=◌, refused, bad_setting, formed, after_each}
+use Rattle.rad_site.specs.Nodes.{◌>>=◌, refused, bad_setting, after_each}
 use Rattle.rad_site.specs.Items.{is_block}
 use Rattle.rad_site.specs.ConfFault.{of_conf}
 use Rattle.rad_site.specs.DictFault.{of_dict}

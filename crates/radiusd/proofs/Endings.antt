@@ -120,8 +120,7 @@ module _ {W S K U G : Type 0} where
     ended_wires entries number [] [] each fresh over is = tt
     ended_wires entries number (old ∷ olds) (new ∷ news) each fresh over is =
         let serves = subst (λ (l : Option Left). Works tells number l old new (entries number)) fresh.0.serving each.0 in
-        let both = graver_ended over.0.0 (gravest (lefts_of news)) (sym (gravest_is new news over.0.0 over.0.1) ∙ is) in
-        (
+        let both = graver_ended over.0.0 (gravest (lefts_of news)) (sym (gravest_is new news over.0.0 over.0.1) ∙ is) in (
           (subst (λ (l : Option Left). Leaves tells l old.kit.wire new.kit.wire (entries number)) (over.0.1 ∙ ap Some both.0) serves.leaves).1,
           ended_wires entries (number + 1) olds news each.1 fresh.1 over.1 both.1,
         )

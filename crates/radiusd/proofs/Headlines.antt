@@ -1,7 +1,6 @@
 -- The headline of a run, from what its parts left.
 use Rattle.std.proofs.Common.{ℕ, suc, ◌≡◌, ◌⊎◌, ◌≤◌, ◌+◌, ◌++◌, List, [], ◌∷◌, map, true, Option, Ok, length, inl, inr, refl, ap, sym, ◌∙◌, subst, append-nil, append_assoc, arith}
 use Rattle.std.specs.List.{AllByRecursion}
-use Rattle.rad_outside.specs.declared.crew.Kit.{Kit}
 use Rattle.rad_outside.specs.Crew.{Handed}
 use Rattle.rad_outside.specs.Telling.{Tells}
 use Rattle.rad_core.specs.declared.installed.Installed.{Installed}

@@ -1,7 +1,6 @@
 -- Workers that are hired one after another.
-use Rattle.std.proofs.Common.{ℕ, ◌≡◌, ◌+◌, ◌++◌, List, [], ◌∷◌, map, length, Option, None, refl, ap, sym, ◌∙◌, subst, append-nil, append_assoc}
+use Rattle.std.proofs.Common.{ℕ, ◌≡◌, ◌+◌, ◌++◌, List, [], ◌∷◌, map, Option, None, refl, ap, sym, ◌∙◌, subst, append-nil, append_assoc}
 use Rattle.std.specs.List.{AllByRecursion}
-use Rattle.rad_outside.specs.declared.crew.Kit.{Kit}
 use Rattle.rad_outside.specs.declared.listen.Listen.{Listen}
 use Rattle.rad_outside.specs.Crew.{Handed}
 use Rattle.rad_outside.specs.Telling.{Tells}
@@ -11,7 +10,7 @@ use Rattle.rad_serve.specs.declared.worker.Worker.{Worker}
 use Rattle.rad_serve.specs.Told.{GrowsBy}
 use Rattle.rad_serve.proofs.Telling.{All-append, GrowsBy-join}
 use Rattle.radiusd.specs.Hiring.{staffed, Hires, HiresOne, HiresSome, HiresNone, IsFresh}
-use Rattle.radiusd.specs.Kits.{Call, call_of, calls_from, numbered}
+use Rattle.radiusd.specs.Kits.{Call, call_of, calls_from}
 use Rattle.radiusd.specs.Loading.{listen_of}
 use Rattle.radiusd.specs.ServedSite.{IsAuth}
 

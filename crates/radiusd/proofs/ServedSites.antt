@@ -1,6 +1,5 @@
 -- The headline of a run that served a site, or couldn't.
-use Rattle.std.proofs.Common.{ℕ, ◌≡◌, ◌⊎◌, ◌++◌, List, [], ◌∷◌, map, true, Option, inl, inr, refl, ap, sym, ◌∙◌, subst, arith}
-use Rattle.std.specs.List.{AllByRecursion}
+use Rattle.std.proofs.Common.{ℕ, ◌≡◌, ◌⊎◌, ◌++◌, List, [], map, true, Option, inl, inr, refl, ap, sym, ◌∙◌, subst, arith}
 use Rattle.rad_outside.specs.declared.crew.Kit.{Kit}
 use Rattle.rad_outside.specs.declared.listen.Listen.{Listen}
 use Rattle.rad_outside.specs.Crew.{Handed}
@@ -16,22 +15,21 @@ use Rattle.rad_serve.specs.declared.counts.Tally.{Tally}
 use Rattle.rad_serve.specs.declared.worker.Worker.{Worker}
 use Rattle.rad_serve.specs.Counting.{counts_of, counts_between, tally_of}
 use Rattle.rad_serve.specs.History.{Installs}
-use Rattle.rad_serve.specs.Leaving.{IsAtEnd}
 use Rattle.rad_serve.specs.Rounds.{Round}
 use Rattle.rad_serve.specs.Told.{KitTells, GrowsBy}
 use Rattle.rad_serve.proofs.RoundsJoined.{round_still}
 use Rattle.rad_serve.proofs.Tallies.{between, counts_apart}
 use Rattle.radiusd.specs.declared.status.Status.{Status}
 use Rattle.radiusd.specs.declared.status.Status.TheVariants as status
-use Rattle.radiusd.specs.Course.{Serving, Unserved, Takes, IsExcused, status_line}
+use Rattle.radiusd.specs.Course.{Serving, Unserved, IsExcused, status_line}
 use Rattle.radiusd.specs.ExitStatuses.{number_of}
 use Rattle.radiusd.specs.Headline.{Headline}
-use Rattle.radiusd.specs.Hiring.{staffed, HiresNone, HiresSome}
-use Rattle.radiusd.specs.Kits.{Call, call_of, calls_from, calls_of, IsProperFront}
+use Rattle.radiusd.specs.Hiring.{staffed}
+use Rattle.radiusd.specs.Kits.{call_of, calls_from, calls_of, IsProperFront}
 use Rattle.radiusd.specs.Lines.{listening_lines, counts_line}
 use Rattle.radiusd.specs.Loading.{listeners_of}
 use Rattle.radiusd.specs.Printing.{Prints}
-use Rattle.radiusd.specs.ServedSite.{StaffServes, StaffFails, PrintsServing}
+use Rattle.radiusd.specs.ServedSite.{StaffServes, StaffFails}
 use Rattle.radiusd.proofs.Headlines.{headline_round, install_of, unhired_ends}
 use Rattle.radiusd.proofs.Printings.{finished}
 
@@ -71,7 +69,7 @@ module _ {W S K U G L : Type 0} (tells : KitTells W K U) (ended : Status) (crew_
       → Headline tells (Unserved site) (number_of ended) crew_before crew_now log_before log_now printed_before printed_now sink_before sink_now before now kits
   headline_unserved now kits fails =
       let had : (handed : List (Handed W S K U G)) → fails.workers ≡ staffed 0 handed → Tells crew_before crew_now (GrowsBy handed) → (handed ≡ []) ⊎ IsProperFront (map call_of handed) (calls_of site)
-          → Headline tells (Unserved site) (number_of ended) crew_before crew_now log_before log_now printed_before printed_now sink_before sink_now before now kits =
+      → Headline tells (Unserved site) (number_of ended) crew_before crew_now log_before log_now printed_before printed_now sink_before sink_now before now kits =
       λ handed workers told front.
       let kits_are : kits ≡ map (λ (worker : Worker W S K U G). worker.kit) (staffed 0 handed) = fails.kits_are ∙ ap (map (λ (worker : Worker W S K U G). worker.kit)) workers in
       subst (λ (ks : List (Kit W S K U G)). Headline tells (Unserved site) (number_of ended) crew_before crew_now log_before log_now printed_before printed_now sink_before sink_now before now ks) (sym kits_are)

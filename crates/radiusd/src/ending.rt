@@ -1,10 +1,8 @@
 //! What a run prints at its end, and the status that it answers.
 
 ghost use Rattle.std.specs.Prelude.{◌≡◌, ◌≤◌, ◌⊎◌, ◌++◌, Some};
-ghost use Rattle.std.specs.List.{AllByRecursion};
 ghost use Rattle.rad_outside.specs.Telling.{Tells, Rose};
 ghost use Rattle.rad_serve.specs.Leaving.{IsAtEnd};
-ghost use Rattle.rad_serve.specs.Rounds.{HasLeft};
 ghost use Rattle.radiusd.specs.Course.{IsExcused, status_line};
 ghost use Rattle.radiusd.specs.Ending.{graver, gravest, lefts_of};
 ghost use Rattle.radiusd.specs.Lines.{counts_line};

@@ -1,4 +1,4 @@
-ghost use Rattle.std.specs.Prelude.{◌≡◌, ◌≤◌, IfErr, OnOk};
+ghost use Rattle.std.specs.Prelude.{◌≤◌, IfErr, OnOk};
 ghost use Rattle.rad_outside.specs.Telling.{Tells};
 ghost use Rattle.radiusd.specs.Lines.{listening_line, listening_lines};
 ghost use Rattle.radiusd.specs.Printing.{PrintsWhole, IsCutShort};

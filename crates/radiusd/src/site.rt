@@ -115,7 +115,9 @@ where
     }
     let mut workers = Vec::new(alloc);
     match hire(alloc, crew, listeners, 0, &mut workers) {
-        Ok(()) => serve_workers(rt, alloc, listeners, before, loaded, workers, kits, hub, out),
+        Ok(()) => serve_workers(
+            rt, alloc, listeners, before, loaded, workers, kits, hub, out,
+        ),
         Err(status) => {
             hand_back(workers, kits);
             end_unserved(out, status)

@@ -1,7 +1,5 @@
-use Rattle.std.proofs.Common.{◌++◌, List, [], map, inl, inr, refl, ap, sym, ◌∙◌, subst}
-use Rattle.rad_serve.specs.Told.{KitTells}
+use Rattle.std.proofs.Common.{◌++◌, [], map, inl, inr, refl, ap, ◌∙◌}
 use Rattle.rad_serve.specs.declared.worker.Worker.{Worker}
-use Rattle.radiusd.specs.declared.status.Status.TheVariants as status
 use Rattle.radiusd.specs.Course.{IsExcused, status_line}
 use Rattle.radiusd.proofs.Hirings.{hires_none}
 use Rattle.radiusd.proofs.Printings.{Prints-nothing}

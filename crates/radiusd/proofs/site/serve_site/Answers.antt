@@ -42,7 +42,7 @@ returns-in-Ok-clause-headline g c =
     let log = c.serve_listeners.ensures.origin ∙ c.install.ensures.origin in
     elim c.serve_listeners.ensures.staff [
       | inl served ↦ inl (headline_served tells c.serve_listeners.result crew taken c.args.hub.now.origin c.serve_listeners.new.hub.origin out printed before now c.args.generation c.as_slice.result.now c.args.hub.now.history c.install.new.hub.history c.tally-before.ensures.legal installed.installs listeners_are log
-      c.tally-before.result c.tally-loaded.result c.serve_listeners.new.hub.history c.serve_listeners.new.kits.items c.tally-before.ensures.tally c.tally-loaded.ensures.tally served)
+          c.tally-before.result c.tally-loaded.result c.serve_listeners.new.hub.history c.serve_listeners.new.kits.items c.tally-before.ensures.tally c.tally-loaded.ensures.tally served)
       | inr fails ↦ inr (headline_unserved tells c.serve_listeners.result crew taken c.args.hub.now.origin c.serve_listeners.new.hub.origin out printed before now c.args.generation c.as_slice.result.now c.args.hub.now.history c.install.new.hub.history c.tally-before.ensures.legal installed.installs listeners_are log
-      c.serve_listeners.new.hub.history c.serve_listeners.new.kits.items fails)
+          c.serve_listeners.new.hub.history c.serve_listeners.new.kits.items fails)
     ]
