@@ -132,20 +132,20 @@ module _ {W S K U G : Type 0} (tells : KitTells W K U) where
 
   each_join : (f g : ℕ → List (Placed Site BuildFault)) (number : ℕ) (olds mids news : List (Worker W S K U G)) → EachWorks tells f number olds mids → EachWorks tells g number mids news → EachWorks tells (λ k. f k ++ g k) number olds news
   each_join f g number [] [] [] first second = tt
-  each_join f g number (a ∷ as) (b ∷ bs) (c ∷ cs) first second = (
+  each_join f g number (a ∷ olds) (b ∷ mids) (c ∷ news) first second = (
     works_join number a b c (f number) (g number) a.left refl first.0 second.0,
-    each_join f g (number + 1) as bs cs first.1 second.1,
+    each_join f g (number + 1) olds mids news first.1 second.1,
   )
-  each_join f g number [] [] (c ∷ cs) first second = absurd second
-  each_join f g number [] (b ∷ bs) news first second = absurd first
-  each_join f g number (a ∷ as) [] news first second = absurd first
-  each_join f g number (a ∷ as) (b ∷ bs) [] first second = absurd second
+  each_join f g number [] [] (c ∷ news) first second = absurd second
+  each_join f g number [] (b ∷ mids) news first second = absurd first
+  each_join f g number (a ∷ olds) [] news first second = absurd first
+  each_join f g number (a ∷ olds) (b ∷ mids) [] first second = absurd second
 
   each_length : (f : ℕ → List (Placed Site BuildFault)) (number : ℕ) (olds news : List (Worker W S K U G)) → EachWorks tells f number olds news → length news ≡ length olds
   each_length f number [] [] each = refl
-  each_length f number (a ∷ as) (b ∷ bs) each = ap suc (each_length f (number + 1) as bs each.1)
-  each_length f number [] (b ∷ bs) each = absurd each
-  each_length f number (a ∷ as) [] each = absurd each
+  each_length f number (a ∷ olds) (b ∷ news) each = ap suc (each_length f (number + 1) olds news each.1)
+  each_length f number [] (b ∷ news) each = absurd each
+  each_length f number (a ∷ olds) [] each = absurd each
 
   pub round_length : (number : ℕ) (before after : List (Entry Site BuildFault)) (olds news : List (Worker W S K U G)) → Round tells number before after olds news → length news ≡ length olds
   round_length number before after olds news r = each_length _ number olds news r.each

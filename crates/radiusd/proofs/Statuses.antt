@@ -18,7 +18,7 @@ use Rattle.radiusd.specs.declared.order.Task.{Task}
 use Rattle.radiusd.specs.declared.order.Task.TheVariants.{Check, Serve}
 use Rattle.radiusd.specs.Words.{both, order_in, folder_in}
 use Rattle.radiusd.specs.Printing.{Prints}
-use Rattle.radiusd.specs.Course.{IsCourse, Unbuilt, Checked, Serving, fault_line, HasDeafWire}
+use Rattle.radiusd.specs.Course.{IsCourse, Unbuilt, Checked, Serving, Unserved, fault_line, HasDeafWire}
 use Rattle.radiusd.specs.ExitStatuses.{number_of, status_of, IsServing}
 use Rattle.radiusd.specs.Statuses.{IsSiteFault, IsRefused, FaultGives, SiteGives, NothingFailed, IsListed}
 use Rattle.rad_serve.specs.History.{IsFull}
@@ -96,6 +96,16 @@ pub serving_course : (words : List (List ℕ)) (folder : List ℕ) (site : Site)
     → Tells files_before files_now (λ before now. (now ≡ begun before) × IsBuilt site_meaning (record { files = (begun before).present; folder = folder }) (Ok site))
     → IsCourse words files_before files_now (Serving site)
 serving_course words folder site files_before files_now words_are told = (
+  folder,
+  words_are,
+  told,
+)
+
+pub unserved_course : (words : List (List ℕ)) (folder : List ℕ) (site : Site) (files_before files_now : Option FilesTold)
+    → order_in words ≡ Some (record { task = Serve; folder = folder })
+    → Tells files_before files_now (λ before now. (now ≡ begun before) × IsBuilt site_meaning (record { files = (begun before).present; folder = folder }) (Ok site))
+    → IsCourse words files_before files_now (Unserved site)
+unserved_course words folder site files_before files_now words_are told = (
   folder,
   words_are,
   told,

@@ -5,7 +5,7 @@ use Rattle.radiusd.specs.declared.order.Task.TheVariants.{Check, Serve}
 use Rattle.radiusd.specs.declared.status.Status.TheVariants as status
 use Rattle.radiusd.specs.OrderSeen.{OrderSeen}
 use Rattle.rad_serve.specs.Told.{KitTells, GrowsBy}
-use Rattle.radiusd.specs.Course.{Course, Unread, Misworded, Unbuilt, Checked, Serving, IsExcused, fault_line}
+use Rattle.radiusd.specs.Course.{Course, Unread, Misworded, Unbuilt, Checked, Serving, Unserved, IsExcused, fault_line}
 use Rattle.radiusd.specs.Lines.{usage_line, checked_line}
 use Rattle.radiusd.specs.Headline.{Headline}
 use Rattle.radiusd.specs.ExitStatuses.{number_of}
@@ -13,7 +13,7 @@ use Rattle.radiusd.specs.Statuses.{NothingFailed, NothingFailedOfCheck}
 use Rattle.rad_outside.proofs.Tellings.{Tells-same}
 use Rattle.radiusd.proofs.Printings.{Prints-weaker, Prints-nothing}
 use Rattle.radiusd.proofs.Headlines.{headline_idle}
-use Rattle.radiusd.proofs.Statuses.{FaultGives-by_fault, IsRefused-by_fault, unbuilt_course, checked_course, serving_course, ordered, folder_of_order, SiteGives-by_fault}
+use Rattle.radiusd.proofs.Statuses.{FaultGives-by_fault, IsRefused-by_fault, unbuilt_course, checked_course, serving_course, unserved_course, ordered, folder_of_order, SiteGives-by_fault}
 use Rattle.radiusd.proofs.top.run.Goals as goal
 
 pub returns-in-Err-clause-headline : goal.returns-in-Err-clause-headline
@@ -97,11 +97,12 @@ returns-clause-headline g c =
     let order = c.in-Ok-Some.order in
     let folder = c.as_str.result.now in
     let folder_is : order.folder ≡ folder = sym (ap (λ (o : OrderSeen). o.folder) c.order.view_is) ∙ sym c.as_str.ensures.value in
-    let task_is : order.task ≡ Serve = sym (ap (λ (o : OrderSeen). o.task) c.order.view_is) ∙ c.in-Serve.is in (
-      Serving c.in-Ok.generation,
-      serving_course (map string_bytes c.args.words.now) folder c.in-Ok.generation (g.F.Files.told c.args.files.now) (g.F.Files.told c.build.new.files) (ordered (map string_bytes c.args.words.now) order Serve folder (sym c.in-Ok-Some.ensures ∙ c.in-Ok-Some.field-0-is) task_is folder_is) c.in-Ok.ensures.told,
-      c.serve_site.ensures.headline,
-    )
+    let task_is : order.task ≡ Serve = sym (ap (λ (o : OrderSeen). o.task) c.order.view_is) ∙ c.in-Serve.is in
+    let words_are = ordered (map string_bytes c.args.words.now) order Serve folder (sym c.in-Ok-Some.ensures ∙ c.in-Ok-Some.field-0-is) task_is folder_is in
+    elim c.serve_site.ensures.headline [
+      | inl served ↦ (Serving c.in-Ok.generation, serving_course (map string_bytes c.args.words.now) folder c.in-Ok.generation (g.F.Files.told c.args.files.now) (g.F.Files.told c.build.new.files) words_are c.in-Ok.ensures.told, served)
+      | inr unserved ↦ (Unserved c.in-Ok.generation, unserved_course (map string_bytes c.args.words.now) folder c.in-Ok.generation (g.F.Files.told c.args.files.now) (g.F.Files.told c.build.new.files) words_are c.in-Ok.ensures.told, unserved)
+    ]
 
 pub returns-in-Err-build-clause-refused : goal.returns-in-Err-build-clause-refused
 returns-in-Err-build-clause-refused g c =
