@@ -5,6 +5,7 @@
 
 mod attributes;
 mod fault;
+mod held;
 mod laws;
 mod parting;
 mod realm_module;

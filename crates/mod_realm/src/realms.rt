@@ -83,6 +83,13 @@ impl Realms {
         Ok(self.realms.get(key.as_slice()))
     }
 
+    /// Whether there is a realm of a name, case aside.
+    pub fn has(&self, alloc: Global, name: &[u8]) -> Result<bool, NoMemory>
+        ensures { IfOk result (λ there. there ≡ is_some (realm_of self.now name.now)) }
+    {
+        Ok(self.find(alloc, name)?.is_some())
+    }
+
     /// The realm of a name, case aside, or else that of the name DEFAULT.
     pub(crate) fn find_or_default(
         &self,

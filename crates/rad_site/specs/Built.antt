@@ -1,6 +1,6 @@
 -- What a site's folder is built to: a generation, or the first fault. The file is after the manual page radiusd.conf(5);
 -- which items are built is this project's own.
-use Rattle.std.specs.Prelude.{ℕ, Bool, [], ◌∷◌, ◌++◌, ◌||◌, List, length, nat_le, Some, None, Result, Ok, codes, if◌then◌else◌}
+use Rattle.std.specs.Prelude.{ℕ, Bool, [], ◌∷◌, ◌++◌, List, length, nat_le, Some, None, Result, Ok, codes, if◌then◌else◌}
 use Rattle.std.specs.Option.{is_some}
 use Rattle.std.specs.List.{find}
 use Rattle.rad_outside.specs.declared.files.Place.{Place}
@@ -50,9 +50,9 @@ most_clients = 4096
 abbrev pub is_client : Node → Bool
 is_client = is_block (codes "client")
 
--- Blocks at the top that aren't built and would change what the site means: realms and the control wire.
+-- Blocks at the top that aren't built and would change what the site means: that of the control wire.
 abbrev pub is_unbuilt : Node → Bool
-is_unbuilt node = is_block (codes "realm") node || is_block (codes "control") node
+is_unbuilt = is_block (codes "control")
 
 -- At the top stands no block that isn't built. Other settings and blocks are passed over.
 abbrev pub none_unbuilt : List Node → Result (Unit {0}) BuildFault
