@@ -12,5 +12,6 @@ pub mod UsersFiles
 pub mod Sites
 pub mod Dictionaries
 pub mod Building
+pub mod RealmsSaid
 pub mod AuthTypes
 pub mod PasswordsChecked

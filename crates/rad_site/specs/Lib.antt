@@ -14,6 +14,7 @@ pub mod Numbers
 pub mod Settings
 pub mod ClientBlock
 pub mod RealmBlock
+pub mod RealmsSaid
 pub mod RealmSettings
 pub mod Modules
 pub mod ModulesBlock
