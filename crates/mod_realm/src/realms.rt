@@ -17,7 +17,7 @@ const DEFAULT: &[u8] = b"DEFAULT";
 
 /// A realm, under the name as it is configured.
 #[derive(Debug, Drop)]
-pub(crate) struct Realm {
+pub struct Realm {
     pub name: Octets,
     /// Whether the user's name stays whole.
     pub nostrip: bool,

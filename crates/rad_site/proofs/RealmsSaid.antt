@@ -10,7 +10,8 @@ use Rattle.rad_conf.specs.declared.tree.Node.{Node}
 use Rattle.rad_conf.specs.declared.tree.Item.{out-Item}
 use Rattle.rad_conf.specs.declared.tree.Item.TheOpen as level
 use Rattle.rad_conf.specs.Tree.{Layer}
-use Rattle.mod_realm.specs.Realms.{Realm, realm_of}
+use Rattle.mod_realm.specs.declared.realms.Realm.{Realm}
+use Rattle.mod_realm.specs.Realms.{realm_of}
 use Rattle.rad_site.specs.declared.fault.BuildFault.{BuildFault}
 use Rattle.rad_site.specs.declared.fault.BuildFault.TheVariants as fault
 use Rattle.unlang_tree.specs.declared.fault.TreeFault.TheVariants as tree
@@ -153,11 +154,11 @@ item_adds known next node nodes realms is says = by_kind (is_realm_block node) k
 
 all_said : (known : List Realm) (nodes : List Node) (realms : List Realm) → after_each with_item known nodes ≡ Ok realms → Says known nodes realms
 unfolding after_each
-all_said known [] realms is = record { more = []; joined = same_ok known realms is ∙ sym (append-nil known); said = refl; new = tt; }
+all_said known [] realms is = record { more = []; joined = same_ok known realms is ∙ sym (append-nil known); said = refl; new = tt }
 all_said known (node ∷ nodes) realms is =
     behind (with_item known node) (λ next. after_each with_item next nodes) realms is (λ next now later.
     let by = item_adds known next node nodes realms now (all_said next nodes realms later) in
-    record { more = by.more; joined = by.joined; said = by.said; new = by.new; })
+    record { more = by.more; joined = by.joined; said = by.said; new = by.new })
 
 pub said_by_blocks : (nodes : List Node) (realms : List Realm) → realms_in nodes ≡ Ok realms → map (λ (one : Realm). Some one) realms ≡ map said_of (filter is_realm_block nodes)
 said_by_blocks nodes realms is = let all = all_said [] nodes realms is in ap (λ (rs : List Realm). map (λ (one : Realm). Some one) rs) all.joined ∙ all.said

@@ -1,6 +1,6 @@
 -- What a site's folder is built to: a generation, or the first fault. The file is after the manual page radiusd.conf(5);
 -- which items are built is this project's own.
-use Rattle.std.specs.Prelude.{ℕ, Bool, [], ◌∷◌, ◌++◌, List, length, nat_le, Some, None, Result, Ok, codes, if◌then◌else◌}
+use Rattle.std.specs.Prelude.{ℕ, Bool, [], ◌∷◌, ◌++◌, ◌||◌, List, length, nat_le, Some, None, Result, Ok, codes, if◌then◌else◌}
 use Rattle.std.specs.Option.{is_some}
 use Rattle.std.specs.List.{find}
 use Rattle.rad_outside.specs.declared.files.Place.{Place}

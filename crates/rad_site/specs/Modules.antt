@@ -4,7 +4,7 @@ use Rattle.std.specs.Prelude.{ℕ, ◌≡◌, ◌+◌, Bool, ◌&&◌, ◌||◌,
 use Rattle.std.specs.Option.{is_some}
 use Rattle.rad_words.specs.declared.codes.Code.{Code}
 use Rattle.rad_words.specs.declared.codes.Code.TheVariants as code
-use Rattle.mod_realm.specs.Realms.{Realm}
+use Rattle.mod_realm.specs.declared.realms.Realm.{Realm}
 use Rattle.unlang_tree.specs.Instances.{Instance, number_of}
 use Rattle.rad_site.specs.declared.site_module.SiteModule.{SiteModule}
 use Rattle.rad_site.specs.declared.site_module.SiteModule.TheVariants as site

@@ -21,7 +21,7 @@ use Rattle.mod_users.specs.declared.fault.UsersFault.{UsersFault}
 use Rattle.mod_users.specs.declared.form.Form.TheVariants.{Reply}
 use Rattle.mod_users.specs.Users.{users_of_text}
 use Rattle.mod_users.specs.Module.{module_by}
-use Rattle.mod_realm.specs.Realms.{Realm}
+use Rattle.mod_realm.specs.declared.realms.Realm.{Realm}
 use Rattle.rad_site.specs.declared.fault.BuildFault.{BuildFault}
 use Rattle.rad_site.specs.declared.fault.BuildFault.TheVariants as fault
 use Rattle.rad_site.specs.declared.site_module.SiteModule.{SiteModule}

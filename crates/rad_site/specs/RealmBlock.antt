@@ -8,7 +8,8 @@ use Rattle.rad_outside.specs.declared.files.Place.{Place}
 use Rattle.rad_conf.specs.declared.tree.Node.{Node}
 use Rattle.rad_conf.specs.declared.tree.Item.{out-Item}
 use Rattle.rad_conf.specs.declared.tree.Item.TheOpen as level
-use Rattle.mod_realm.specs.Realms.{Realm, realm_of}
+use Rattle.mod_realm.specs.declared.realms.Realm.{Realm}
+use Rattle.mod_realm.specs.Realms.{realm_of}
 use Rattle.rad_site.specs.declared.fault.BuildFault.{BuildFault}
 use Rattle.rad_site.specs.Nodes.{◌>>=◌, refused, bad_setting, formed, after_each}
 use Rattle.rad_site.specs.Items.{is_block, named_block}

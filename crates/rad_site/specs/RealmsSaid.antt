@@ -7,7 +7,8 @@ use Rattle.rad_conf.specs.declared.tree.Node.{Node}
 use Rattle.rad_conf.specs.declared.tree.Item.{out-Item}
 use Rattle.rad_conf.specs.declared.tree.Item.TheOpen as level
 use Rattle.rad_conf.specs.Tree.{Layer}
-use Rattle.mod_realm.specs.Realms.{Realm, realm_of}
+use Rattle.mod_realm.specs.declared.realms.Realm.{Realm}
+use Rattle.mod_realm.specs.Realms.{realm_of}
 use Rattle.rad_site.specs.Items.{is_block, named_block}
 
 -- An item is the name alone `nostrip`.

@@ -7,7 +7,7 @@ ghost use Rattle.mod_base.specs.Situation.{Situation};
 ghost use Rattle.mod_auth.specs.LetsIn.{KnowsThePassword, HasTheDigest};
 ghost use Rattle.rad_site.specs.declared.verdict.Verdict.{Verdict};
 ghost use Rattle.rad_conf.specs.declared.tree.Node.{Node};
-ghost use Rattle.mod_realm.specs.Realms.{Realm};
+ghost use Rattle.mod_realm.specs.declared.realms.Realm.{Realm};
 ghost use Rattle.rad_site.specs.Access.{authorized, decided};
 ghost use Rattle.rad_site.specs.Passwords.{ChecksPasswords, ChecksChallenges, ChecksEither};
 ghost use Rattle.rad_site.specs.Policies.{Policies as AnyPolicies};

@@ -6,8 +6,8 @@ ghost use Rattle.rad_site.specs.Modules.{no_modules, is_taken, has_room, and_mod
 
 use crate::build::codes::{is_code_name, name_of};
 use crate::site_module::SiteModule;
-use mod_realm::Realms;
 use mod_base::{Always, Module, Stack};
+use mod_realm::Realms;
 use rad_outside::NoMemory;
 use rad_words::Code;
 use std::alloc::Global;

@@ -1,6 +1,6 @@
 //! The realms of a site.
 
-ghost use Rattle.std.specs.Prelude.{◌≡◌, [], false, IfOk};
+ghost use Rattle.std.specs.Prelude.{◌≡◌, ◌++◌, ◌∷◌, [], false, IfOk};
 ghost use Rattle.std.specs.Option.{is_some};
 ghost use Rattle.mod_realm.specs.Realms.{realm_of};
 ghost use Rattle.rad_site.specs.Nodes.{Gives, after_each};

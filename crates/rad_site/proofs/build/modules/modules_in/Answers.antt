@@ -1,6 +1,6 @@
 use Rattle.std.proofs.Common.{Result, Ok, Err, List, refl, sym, ap}
 use Rattle.std.proofs.lemmas.Result.{err_from_is_err_and}
-use Rattle.mod_realm.specs.Realms.{Realm}
+use Rattle.mod_realm.specs.declared.realms.Realm.{Realm}
 use Rattle.rad_policy.specs.Policy.{Sources}
 use Rattle.rad_site.specs.declared.fault.BuildFault.{BuildFault}
 use Rattle.rad_site.specs.Nodes.{◌>>=◌}
