@@ -20,7 +20,7 @@ use Rattle.rad_value.specs.Comparison.{is_equal}
 use Rattle.rad_value.specs.declared.scope.Scope.{Scope}
 use Rattle.rad_value.specs.Edit.{has_attr, edited_by, is_full, tried, lists_edited}
 use Rattle.rad_value.specs.Pairs.{is_of, values_of, text_of, first_text}
-use Rattle.rad_value.specs.PairLists.{PairLists, list_of, with_list}
+use Rattle.rad_value.specs.PairLists.{PairLists, list_of, with_list, same_list}
 use Rattle.rad_value.proofs.EditLaws.{edit-added, edit-appended, edit-cleared, edit-kept, edit-others, edit-removed, edit-set}
 use Rattle.rad_dict.specs.Definitions.{Definitions}
 use Rattle.rad_dict.proofs.Lookups.{same_attr_is}
@@ -39,7 +39,6 @@ use Rattle.unlang_tree.specs.declared.update.Right.TheVariants as right
 use Rattle.unlang_code.specs.declared.update.Said.{Said}
 use Rattle.unlang_code.specs.declared.update.Said.TheVariants as said
 use Rattle.unlang_code.specs.Updates.{said_by, edit_of, tried_to, done_with}
-use Rattle.unlang_code.specs.Frames.{same_list}
 use Rattle.rad_site.specs.declared.site_module.SiteModule.{SiteModule}
 use Rattle.rad_site.specs.declared.site_module.SiteModule.TheVariants as site
 use Rattle.rad_site.specs.Attributes.{auth_type}

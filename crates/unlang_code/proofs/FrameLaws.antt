@@ -12,7 +12,7 @@ use Rattle.rad_value.specs.declared.edits.ListName.TheVariants.{Request, Reply, 
 use Rattle.rad_value.specs.declared.values.Pair.{Pair}
 use Rattle.rad_value.specs.Edit.{tried, edited, lists_edited, is_full, pair_of}
 use Rattle.rad_value.specs.Pairs.{is_of, values_of}
-use Rattle.rad_value.specs.PairLists.{PairLists, list_of, with_list}
+use Rattle.rad_value.specs.PairLists.{PairLists, list_of, with_list, same_list}
 use Rattle.rad_value.proofs.EditLaws.{edit-others}
 use Rattle.rad_dict.specs.Definitions.{Definitions}
 use Rattle.rad_dict.proofs.Lookups.{same_attr_is}
@@ -27,7 +27,7 @@ use Rattle.unlang_code.specs.declared.update.Said.{Said}
 use Rattle.unlang_code.specs.declared.update.Said.TheVariants as said
 use Rattle.unlang_code.specs.Updates.{said_by, edit_of, tried_to, done_with}
 use Rattle.unlang_code.specs.Run.{section_done, begun, in_scope}
-use Rattle.unlang_code.specs.Frames.{same_list, module_edits, line_edits, leaf_edits, edits_of}
+use Rattle.unlang_code.specs.Frames.{module_edits, line_edits, leaf_edits, edits_of}
 use Rattle.unlang_code.specs.Leaves.{Leaf, Calls, Edits, module_done, leaf_done, leaves_of}
 use Rattle.unlang_code.proofs.Leaving.{IsLasting, LeafLeads, run_leads}
 

@@ -11,7 +11,7 @@ use Rattle.rad_conf.specs.declared.tree.Node.{Node}
 use Rattle.rad_conf.specs.declared.tree.Item.{out-Item}
 use Rattle.rad_conf.specs.declared.tree.Item.TheOpen as level
 use Rattle.rad_words.specs.declared.codes.Code.{Code}
-use Rattle.rad_words.specs.declared.codes.Code.TheVariants as code
+use Rattle.rad_words.specs.Codes.{code_named}
 use Rattle.rad_tables.specs.declared.action_table.Action.{Action}
 use Rattle.rad_tables.specs.declared.action_table.Action.TheVariants as action
 use Rattle.rad_text.specs.Numerals.{number_of}
@@ -20,20 +20,6 @@ use Rattle.unlang_tree.specs.declared.fault.TreeFault.{TreeFault}
 use Rattle.unlang_tree.specs.declared.fault.TreeFault.TheVariants as fault
 use Rattle.unlang_tree.specs.declared.statement.Override.{Override}
 use Rattle.unlang_tree.specs.Readings.{after_each}
-
--- The return code of a name.
-unfoldable pub code_named : List ℕ → Option Code
-code_named word =
-    if str_eq_ignore_ascii_case word (codes "reject") then Some code.Reject
-    else (if str_eq_ignore_ascii_case word (codes "fail") then Some code.Fail
-    else (if str_eq_ignore_ascii_case word (codes "ok") then Some code.Ok
-    else (if str_eq_ignore_ascii_case word (codes "handled") then Some code.Handled
-    else (if str_eq_ignore_ascii_case word (codes "invalid") then Some code.Invalid
-    else (if str_eq_ignore_ascii_case word (codes "userlock") then Some code.Userlock
-    else (if str_eq_ignore_ascii_case word (codes "notfound") then Some code.Notfound
-    else (if str_eq_ignore_ascii_case word (codes "noop") then Some code.Noop
-    else (if str_eq_ignore_ascii_case word (codes "updated") then Some code.Updated
-    else None))))))))
 
 -- A priority, 1 to 64.
 abbrev pub priority_of : ℕ → Option Action

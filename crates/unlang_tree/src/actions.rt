@@ -2,7 +2,7 @@
 
 ghost use Rattle.std.specs.Prelude.{◌≡◌};
 ghost use Rattle.unlang_tree.specs.Readings.{Gives, Leaves};
-ghost use Rattle.unlang_tree.specs.Actions.{code_named, action_of, bare_action, override_of, override_at, with_override, overrides_of};
+ghost use Rattle.unlang_tree.specs.Actions.{action_of, bare_action, override_of, override_at, with_override, overrides_of};
 
 use crate::fault::TreeFault;
 use crate::refusal::{Wrong, refuse};
@@ -13,34 +13,6 @@ use rad_tables::Action;
 use rad_text::number_of;
 use rad_words::Code;
 use std::alloc::Global;
-
-/// The return code of a name.
-#[tactic(auto, unfolding(crate::specs::Actions::code_named))]
-fn code_named(word: &[u8]) -> Option<Code>
-    ensures { result ≡ code_named word.now }
-{
-    if word.eq_ignore_ascii_case(b"reject") {
-        Some(Code::Reject)
-    } else if word.eq_ignore_ascii_case(b"fail") {
-        Some(Code::Fail)
-    } else if word.eq_ignore_ascii_case(b"ok") {
-        Some(Code::Ok)
-    } else if word.eq_ignore_ascii_case(b"handled") {
-        Some(Code::Handled)
-    } else if word.eq_ignore_ascii_case(b"invalid") {
-        Some(Code::Invalid)
-    } else if word.eq_ignore_ascii_case(b"userlock") {
-        Some(Code::Userlock)
-    } else if word.eq_ignore_ascii_case(b"notfound") {
-        Some(Code::Notfound)
-    } else if word.eq_ignore_ascii_case(b"noop") {
-        Some(Code::Noop)
-    } else if word.eq_ignore_ascii_case(b"updated") {
-        Some(Code::Updated)
-    } else {
-        None
-    }
-}
 
 /// The action of a text: `return`, `reject` or a priority from 1 to 64.
 #[tactic(auto, unfolding(crate::specs::Actions::action_of))]
@@ -80,7 +52,7 @@ fn override_of(left: &[u8], operator: &[u8], right: &Word) -> Option<Override>
     if operator != b"=".as_slice() {
         return None;
     }
-    let code = code_named(left)?;
+    let code = Code::named(left)?;
     let action = bare_action(right)?;
     Some(Override { code, action })
 }
