@@ -13,4 +13,6 @@ pub mod Sites
 pub mod Dictionaries
 pub mod Building
 pub mod AuthTypes
+pub mod ByLeaves
+pub mod Vouching
 pub mod PasswordsChecked

@@ -1,5 +1,6 @@
--- The virtual servers of a configuration, `server NAME { listen { .. } sections }`: their names and their listeners. What
--- stands in their sections is read behind them. After the manual page radiusd.conf(5).
+-- The virtual servers of a configuration, `server NAME { listen { .. } sections }`: their names and their listeners, with the
+-- names of the policies, `policy { NAME { .. } }`, among them. What stands in sections is read behind them. After the manual page
+-- radiusd.conf(5).
 use Rattle.std.specs.Prelude.{ℕ, Bool, true, false, ◌&&◌, ◌||◌, List, [], ◌∷◌, ◌++◌, length, nat_lt, Some, None, Result, Ok, codes, if◌then◌else◌}
 use Rattle.std.specs.List.{list_any}
 use Rattle.std.specs.Option.{is_none}
@@ -13,12 +14,12 @@ use Rattle.rad_site.specs.declared.build.listen.Bound.{Bound}
 use Rattle.rad_site.specs.declared.build.servers.Listener.{Listener}
 use Rattle.rad_site.specs.declared.build.servers.Servers.{Servers}
 use Rattle.rad_site.specs.Nodes.{◌>>=◌, refused, bad_setting, formed, after_each}
-use Rattle.rad_site.specs.Items.{is_block, is_section, nodes_of, named_block}
+use Rattle.rad_site.specs.Items.{is_block, is_section, nodes_of, kind_of, named_block}
 use Rattle.rad_site.specs.ListenBlock.{listener_of}
 
--- Before the first server there are no names and no listener.
+-- Before the first item there are no names and no listener.
 abbrev pub no_servers : Servers
-no_servers = record { names = []; listener = None }
+no_servers = record { names = []; policies = []; listener = None }
 
 -- A server of this name stands.
 abbrev pub has_name : List ℕ → List (List ℕ) → Bool
@@ -65,12 +66,22 @@ with_named known place block =
     if has_name block.0 known.names then bad_setting place block.0
     else (after_each (with_item block.0) (and_name known block.0) block.1 >>= λ next. few_enough place block.0 next)
 
--- The servers after one more item of the top: one that is no server is passed over.
+-- The servers, with the name of one more policy. A second one of a name is refused by it. Names are exact.
+unfoldable pub and_policy : Servers → Place → List ℕ → Result Servers BuildFault
+and_policy known place name =
+    if has_name name known.policies then bad_setting place name else Ok (record known { policies = known.policies ++ name ∷ [] })
+
+-- The same after one more item of a block `policy`: one that is no block is passed over.
+unfoldable pub with_policy : Servers → Node → Result Servers BuildFault
+with_policy known node = elim (kind_of node) [ None ↦ Ok known | Some name ↦ and_policy known node.place name ]
+
+-- The servers after one more item of the top: one that is neither a server nor a block of policies is passed over.
 unfoldable pub with_server : Servers → Node → Result Servers BuildFault
 with_server known node =
-    if is_block (codes "server") node
+    if is_block (codes "policy") node then after_each with_policy known (nodes_of (codes "policy") node)
+    else (if is_block (codes "server") node
     then (formed node.place (codes "server") (named_block node) >>= λ block. with_named known node.place block)
-    else Ok known
+    else Ok known)
 
 -- The servers of a configuration.
 abbrev pub servers_in : List Node → Result Servers BuildFault

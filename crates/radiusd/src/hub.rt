@@ -44,10 +44,11 @@ where
     ghost use Rattle.radiusd.specs.History.{IsAlone, IsNumbered};
     ghost use Rattle.std.specs.Coded.{codes};
     ghost use Rattle.unlang_xlat.specs.contracts.part.Part as part;
+    ghost use Rattle.unlang_tree.specs.contracts.statement.StatementKind as kind;
 
     ghost Value = { HubSeen L };
 
-    ghost coded = { Prim.hlevel (codes, part.the_row.coded) };
+    ghost coded = { Prim.hlevel (codes, part.the_row.coded, kind.the_row.coded) };
 
     ghost view = { λ h. record {
       history = (known h.seat).seen;

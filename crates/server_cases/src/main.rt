@@ -13,7 +13,7 @@ use shared_cases::{Form, Tally};
 use std::process::ExitCode;
 
 /// The files of cases.
-const FILES: [&str; 8] = [
+const FILES: [&str; 9] = [
     "serving.cases",
     "repeats.cases",
     "failing.cases",
@@ -21,6 +21,7 @@ const FILES: [&str; 8] = [
     "sites.cases",
     "users.cases",
     "updates.cases",
+    "blocks.cases",
     "dictionaries.cases",
 ];
 

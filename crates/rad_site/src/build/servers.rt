@@ -1,11 +1,11 @@
-//! The virtual servers of a configuration: their names and their listeners.
+//! The virtual servers of a configuration: their names and their listeners, with the names of the policies.
 
 ghost use Rattle.std.specs.Prelude.{◌≡◌, Ok};
 ghost use Rattle.std.specs.Str.{bytes_eq};
 ghost use Rattle.rad_site.specs.Nodes.{Gives, after_each};
-ghost use Rattle.rad_site.specs.ServerBlocks.{has_name, is_built, and_listener, is_later, with_listen, with_item, and_name, few_enough, with_named, with_server, servers_in};
+ghost use Rattle.rad_site.specs.ServerBlocks.{has_name, is_built, and_listener, is_later, with_listen, with_item, and_name, few_enough, with_named, and_policy, with_policy, with_server, servers_in};
 
-use crate::build::item::{is_block, is_section, named_block, nodes_of};
+use crate::build::item::{is_block, is_section, kind_of, named_block, nodes_of};
 use crate::build::listen::{Bound, listener_of};
 use crate::build::refusal::{refuse, refuse_setting};
 use crate::fault::BuildFault;
@@ -24,10 +24,11 @@ pub(crate) struct Listener {
     pub(crate) at: Peer,
 }
 
-/// What is known of the servers: their names in order, and their one listener.
+/// What is known of the servers: their names in order, those of the policies, and their one listener.
 #[derive(Debug, Drop)]
 pub(crate) struct Servers {
     names: Items<Octets>,
+    policies: Items<Octets>,
     listener: Option<Listener>,
 }
 
@@ -36,7 +37,11 @@ impl Servers {
     pub(crate) fn into_listener(self) -> Option<Listener>
         ensures { result ≡ self.listener }
     {
-        let Servers { names: _, listener } = self;
+        let Servers {
+            names: _,
+            policies: _,
+            listener,
+        } = self;
         listener
     }
 }
@@ -81,6 +86,7 @@ fn and_listener(
     let server = Octets::of(alloc, name)?;
     Ok(Servers {
         names: known.names,
+        policies: known.policies,
         listener: Some(Listener {
             server,
             at: bound.at,
@@ -148,10 +154,15 @@ fn and_name(alloc: Global, known: Servers, name: &[u8]) -> Result<Servers, Build
 {
     let Servers {
         mut names,
+        policies,
         listener,
     } = known;
     names.push(Octets::of(alloc, name)?)?;
-    Ok(Servers { names, listener })
+    Ok(Servers {
+        names,
+        policies,
+        listener,
+    })
 }
 
 /// The servers, where there are at most 64; else the last one is refused.
@@ -189,11 +200,62 @@ fn with_named(
     few_enough(alloc, place, name, known)
 }
 
+/// The servers, with the name of one more policy.
+#[tactic(auto, unfolding(crate::specs::ServerBlocks::and_policy))]
+fn and_policy(
+    alloc: Global,
+    known: Servers,
+    place: &Place,
+    name: &[u8],
+) -> Result<Servers, BuildFault>
+    ensures { Gives result (and_policy known place.now name.now) }
+{
+    if has_name(name, known.policies.as_slice()) {
+        return refuse_setting(alloc, place, name);
+    }
+    let Servers {
+        names,
+        mut policies,
+        listener,
+    } = known;
+    policies.push(Octets::of(alloc, name)?)?;
+    Ok(Servers {
+        names,
+        policies,
+        listener,
+    })
+}
+
+/// The same after one more item of a block `policy`.
+#[tactic(auto, unfolding(crate::specs::ServerBlocks::with_policy))]
+fn with_policy(alloc: Global, known: Servers, node: &Node) -> Result<Servers, BuildFault>
+    ensures { Gives result (with_policy known node.now) }
+{
+    let Some(name) = kind_of(node) else {
+        return Ok(known);
+    };
+    and_policy(alloc, known, &node.place, name)
+}
+
+/// The same after the items of a block `policy`.
+fn with_policies(alloc: Global, known: Servers, items: &[Node]) -> Result<Servers, BuildFault>
+    ensures { Gives result (after_each with_policy known items.now) }
+{
+    let mut known = known;
+    for item in items {
+        known = with_policy(alloc, known, item)?;
+    }
+    Ok(known)
+}
+
 /// The servers after one more item of the top.
 #[tactic(auto, unfolding(crate::specs::ServerBlocks::with_server))]
 fn with_server(alloc: Global, known: Servers, node: &Node) -> Result<Servers, BuildFault>
     ensures { Gives result (with_server known node.now) }
 {
+    if is_block(b"policy", node) {
+        return with_policies(alloc, known, nodes_of(b"policy", node));
+    }
     if !is_block(b"server", node) {
         return Ok(known);
     }
@@ -209,6 +271,7 @@ pub(crate) fn servers_in(alloc: Global, nodes: &[Node]) -> Result<Servers, Build
 {
     let mut known = Servers {
         names: Items::new(alloc),
+        policies: Items::new(alloc),
         listener: None,
     };
     for node in nodes {
