@@ -300,50 +300,20 @@ fn run_formed<M: Module, W: World, O: Observer>(
     ensures in_time { OnOk result (IsInTime scope.new.moment) }
     ensures memory { OnErr result (Stops scope.old (W.state world.old) (λ s. (formed form (map (statement_done M.meaning stack.now dict.now section) statements.now) s).situation.effects) (W.state world.new)) }
 {
+    let plain = GroupKind::Plain;
+    let redundant = GroupKind::Redundant;
     match form {
         GroupForm::Group => run_in_order(
-            alloc,
-            stack,
-            section,
-            GroupKind::Plain,
-            statements,
-            scope,
-            world,
-            dict,
-            observer,
+            alloc, stack, section, plain, statements, scope, world, dict, observer,
         ),
         GroupForm::Redundant => run_in_order(
-            alloc,
-            stack,
-            section,
-            GroupKind::Redundant,
-            statements,
-            scope,
-            world,
-            dict,
-            observer,
+            alloc, stack, section, redundant, statements, scope, world, dict, observer,
         ),
         GroupForm::LoadBalance => run_balanced(
-            alloc,
-            stack,
-            section,
-            GroupKind::Plain,
-            statements,
-            scope,
-            world,
-            dict,
-            observer,
+            alloc, stack, section, plain, statements, scope, world, dict, observer,
         ),
         GroupForm::RedundantLoadBalance => run_balanced(
-            alloc,
-            stack,
-            section,
-            GroupKind::Redundant,
-            statements,
-            scope,
-            world,
-            dict,
-            observer,
+            alloc, stack, section, redundant, statements, scope, world, dict, observer,
         ),
     }
 }
