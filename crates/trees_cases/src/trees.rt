@@ -1,7 +1,7 @@
 //! Source trees as text: each server as `NAME{..}`, in it each section as its name, its statements and its subsections
 //! and a semicolon. A statement is ` LINE:call NUMBER`, by the number of the instance, with `{CODE=ACTION ..}` where it has
 //! actions of its own, ` LINE:return`, ` LINE:update{..}` as `updates` says, or ` LINE:FORM(..)` for a block of statements, with its own
-//! actions before its statements. A subsection is ` [NAME..]` with its statements. No servers at all are `nothing`.
+//! actions before its statements; the call of a policy is such a block of the form `policy`. A subsection is ` [NAME..]` with its statements. No servers at all are `nothing`.
 
 use crate::updates::push_update;
 use rad_outside::NoMemory;
@@ -110,6 +110,7 @@ fn form_name(form: GroupForm) -> &'static [u8] {
         GroupForm::Redundant => b"redundant",
         GroupForm::LoadBalance => b"load-balance",
         GroupForm::RedundantLoadBalance => b"redundant-load-balance",
+        GroupForm::Policy => b"policy",
     }
 }
 

@@ -13,12 +13,14 @@ use Rattle.unlang_tree.specs.declared.statement.Call.{Call}
 use Rattle.unlang_tree.specs.declared.statement.Statement.{Statement}
 use Rattle.unlang_tree.specs.declared.statement.StatementKind.TheVariants as kinds
 use Rattle.unlang_tree.specs.Instances.{number_of}
-use Rattle.unlang_tree.specs.Readings.{one_more, most_levels, after_each}
+use Rattle.unlang_tree.specs.Readings.{one_more, most_statements, after_each}
 use Rattle.unlang_tree.specs.Words.{is_one_of, is_return, later_words, is_word_statement, section_of}
-use Rattle.unlang_tree.specs.Calls.{is_policy, call_of, is_optional, call_at}
+use Rattle.unlang_tree.specs.Calls.{policy_for, call_of, is_optional, called_name, call_at}
 use Rattle.unlang_tree.specs.Sites.{Site}
 use Rattle.unlang_tree.specs.Statements.{one_statement, counted_call, word_at}
-use Rattle.unlang_tree.specs.Groups.{block_by, group_at, statement_by, statement_at, and_also, with_statement, statements_of}
+use Rattle.unlang_tree.specs.PolicyCalls.{policy_called}
+use Rattle.unlang_tree.specs.Depths.{Depth, at_the_top}
+use Rattle.unlang_tree.specs.Groups.{Opener, plain_block, plain_statement, group_block, block_or_plain, called_or_not, statement_by, opened_at, statement_at, and_also, with_statement, statements_of}
 use Rattle.unlang_tree.specs.declared.statements.Counted.{Counted}
 use Rattle.unlang_tree.specs.declared.groups.Members.{Members}
 use Rattle.rad_words.specs.declared.sections.Section.TheVariants as which
@@ -34,46 +36,76 @@ neither true b e = absurd cc
 neither false b e = (refl, e)
 
 module _ (site : Site) (section : Section) where
-  -- a bare word is read as a word
-  word_read : (room : ℕ) (node : Node) (word : List ℕ) → IsWord node word → statement_at site section room node ≡ word_at site section room node.place word
-  unfolding statement_by
-  word_read room node word e =
+  -- a bare word is no block of statements
+  no_group : (node : Node) (word : List ℕ) → IsWord node word → group_block node ≡ None
+  no_group node word e = rw (e, group_block) refl
+
+  plain_word : (levels room : ℕ) (node : Node) (word : List ℕ) → IsWord node word → plain_statement site section levels room node ≡ word_at site section room node.place word
+  unfolding plain_statement
+  plain_word levels room node word e =
       ap (λ item. elim item [
         | level.Pair left operator right ↦ Err (fault.BadAction node.place)
         | level.Name w ↦ word_at site section room node.place w.text
-        | level.Block kind name body ↦ block_by (group_at site section most_levels) site section most_levels room node.place kind.text name body
+        | level.Block kind name body ↦ plain_block site section levels room node.place kind.text name body
       ]) e
+
+  -- a bare word that calls no policy is read as a word, however deep it stands
+  pub word_by : (opener : Opener) (depth : Depth) (room : ℕ) (node : Node) (word : List ℕ) → IsWord node word → policy_called site.root section node ≡ None
+      → statement_by opener site section depth room node ≡ word_at site section room node.place word
+  unfolding statement_by
+  word_by opener depth room node word e free =
+      ap (called_or_not opener site section depth room node) free
+      ∙ ap (block_or_plain opener site section depth room node) (no_group node word e)
+      ∙ plain_word depth.levels room node word e
+
+  -- a word that is free calls none
+  called_by : (node : Node) (word name : List ℕ) → IsWord node word → called_name word ≡ name → IsFree site section word name → policy_called site.root section node ≡ None
+  called_by node word name e same free =
+      rw (e, policy_called) (rw free.no_statement (ap (policy_for site.root section) same ∙ free.no_policy))
+
+  -- `return` calls none
+  pub return_free : (node : Node) → IsWord node (codes "return") → policy_called site.root section node ≡ None
+  return_free node e = rw (e, policy_called) refl
+
+  name_of_plain : (name : List ℕ) → is_optional name ≡ false → called_name name ≡ name
+  name_of_plain name plain = rw plain refl
+
+  pub free_name : (node : Node) (name : List ℕ) → IsWord node name → is_optional name ≡ false → IsFree site section name name → policy_called site.root section node ≡ None
+  free_name node name e plain free = called_by node name name e (name_of_plain name plain) free
+
+  pub free_dash : (node : Node) (name : List ℕ) → IsWord node (45 ∷ name) → IsFree site section (45 ∷ name) name → policy_called site.root section node ≡ None
+  free_dash node name e free = called_by node (45 ∷ name) name e refl free
 
   abbrev plain_call : ℕ → Call
   plain_call number = record { instance = number; overrides = [] }
 
-  call_read : (place : Place) (name : List ℕ) (number : ℕ) → is_policy site.root section name ≡ false → IsCallable site section name number
-      → call_of site.root site.instances section place name ≡ Ok (plain_call number)
+  call_read : (place : Place) (name : List ℕ) (number : ℕ) → IsCallable site section name number
+      → call_of site.instances section place name ≡ Ok (plain_call number)
   unfolding call_of
-  call_read place name number free callable = rw free (rw callable.numbered (rw callable.method refl))
+  call_read place name number callable = rw (callable.numbered, call_of) (rw callable.method refl)
 
-  unknown_read : (place : Place) (name : List ℕ) → is_policy site.root section name ≡ false → number_of site.instances name ≡ None
-      → call_of site.root site.instances section place name ≡ Err (fault.UnknownModule place name)
+  unknown_read : (place : Place) (name : List ℕ) → number_of site.instances name ≡ None
+      → call_of site.instances section place name ≡ Err (fault.UnknownModule place name)
   unfolding call_of
-  unknown_read place name free none = rw free (rw none refl)
+  unknown_read place name none = rw (none, call_of) refl
 
   -- `name`
   name_called : (place : Place) (name : List ℕ) → is_optional name ≡ false
-      → call_at site.root site.instances section place name ≡ (call_of site.root site.instances section place name >>= λ call. Ok (Some call))
+      → call_at site.instances section place name ≡ (call_of site.instances section place name >>= λ call. Ok (Some call))
   unfolding call_at
   name_called place name plain = rw plain refl
 
   -- `-name`, where there is the instance
-  optional_called : (place : Place) (name : List ℕ) (number : ℕ) → is_policy site.root section name ≡ false → IsCallable site section name number
-      → call_at site.root site.instances section place (45 ∷ name) ≡ Ok (Some (plain_call number))
+  optional_called : (place : Place) (name : List ℕ) (number : ℕ) → IsCallable site section name number
+      → call_at site.instances section place (45 ∷ name) ≡ Ok (Some (plain_call number))
   unfolding call_at
-  optional_called place name number free callable = rw free (rw callable.numbered (ap (λ r. r >>= λ call. Ok (Some call)) (call_read place name number free callable)))
+  optional_called place name number callable = rw callable.numbered (ap (λ r. r >>= λ call. Ok (Some call)) (call_read place name number callable))
 
   -- `-name`, where there is none
-  absent_called : (place : Place) (name : List ℕ) → is_policy site.root section name ≡ false → number_of site.instances name ≡ None
-      → call_at site.root site.instances section place (45 ∷ name) ≡ Ok None
+  absent_called : (place : Place) (name : List ℕ) → number_of site.instances name ≡ None
+      → call_at site.instances section place (45 ∷ name) ≡ Ok None
   unfolding call_at
-  absent_called place name free none = rw free (rw none refl)
+  absent_called place name none = rw none refl
 
   -- the call of an instance, as the next statement
   abbrev pub next_from : Node → ℕ → ℕ → Counted
@@ -89,42 +121,60 @@ module _ (site : Site) (section : Section) where
   no_statement word e = neither (is_return word) (is_one_of later_words word) e
 
   -- a word whose call is known
-  word_called : (room : ℕ) (node : Node) (word : List ℕ) (call : Option Call) → IsWord node word → is_word_statement word ≡ false
-      → call_at site.root site.instances section node.place word ≡ Ok call → statement_at site section room node ≡ counted_call room node.place call
+  word_called : (opener : Opener) (depth : Depth) (room : ℕ) (node : Node) (word : List ℕ) (call : Option Call) → IsWord node word → policy_called site.root section node ≡ None → is_word_statement word ≡ false
+      → call_at site.instances section node.place word ≡ Ok call → statement_by opener site section depth room node ≡ counted_call room node.place call
   unfolding word_at
-  word_called room node word call spelled free e = word_read room node word spelled ∙ rw ((no_statement word free).0, (no_statement word free).1, e) refl
+  word_called opener depth room node word call spelled uncalled free e =
+      word_by opener depth room node word spelled uncalled ∙ rw ((no_statement word free).0, (no_statement word free).1, e) refl
 
-  word_wrong : (room : ℕ) (node : Node) (word : List ℕ) (wrong : TreeFault) → IsWord node word → is_word_statement word ≡ false
-      → call_at site.root site.instances section node.place word ≡ Err wrong → statement_at site section room node ≡ Err wrong
+  word_wrong : (opener : Opener) (depth : Depth) (room : ℕ) (node : Node) (word : List ℕ) (wrong : TreeFault) → IsWord node word → policy_called site.root section node ≡ None → is_word_statement word ≡ false
+      → call_at site.instances section node.place word ≡ Err wrong → statement_by opener site section depth room node ≡ Err wrong
   unfolding word_at
-  word_wrong room node word wrong spelled free e = word_read room node word spelled ∙ rw ((no_statement word free).0, (no_statement word free).1, e) refl
+  word_wrong opener depth room node word wrong spelled uncalled free e =
+      word_by opener depth room node word spelled uncalled ∙ rw ((no_statement word free).0, (no_statement word free).1, e) refl
 
   none_counted : (room : ℕ) (place : Place) → counted_call room place None ≡ Ok None
   unfolding counted_call
   none_counted room place = refl
 
+  pub name_by : (opener : Opener) (depth : Depth) (room : ℕ) (node : Node) (name : List ℕ) (number : ℕ) → IsWord node name → is_optional name ≡ false → IsFree site section name name
+      → IsCallable site section name number → 0 < room → statement_by opener site section depth room node ≡ Ok (Some (next_from node number room))
+  name_by opener depth room node name number spelled plain free callable some =
+      word_called opener depth room node name (Some (plain_call number)) spelled (free_name node name spelled plain free) free.no_statement
+      (name_called node.place name plain ∙ ap (λ r. r >>= λ call. Ok (Some call)) (call_read node.place name number callable))
+      ∙ counted room node.place (plain_call number) some
+
+  pub optional_by : (opener : Opener) (depth : Depth) (room : ℕ) (node : Node) (name : List ℕ) (number : ℕ) → IsWord node (45 ∷ name) → IsFree site section (45 ∷ name) name
+      → IsCallable site section name number → 0 < room → statement_by opener site section depth room node ≡ Ok (Some (next_from node number room))
+  optional_by opener depth room node name number spelled free callable some =
+      word_called opener depth room node (45 ∷ name) (Some (plain_call number)) spelled (free_dash node name spelled free) free.no_statement (optional_called node.place name number callable)
+      ∙ counted room node.place (plain_call number) some
+
+  pub absent_by : (opener : Opener) (depth : Depth) (room : ℕ) (node : Node) (name : List ℕ) → IsWord node (45 ∷ name) → IsFree site section (45 ∷ name) name
+      → number_of site.instances name ≡ None → statement_by opener site section depth room node ≡ Ok None
+  absent_by opener depth room node name spelled free none =
+      word_called opener depth room node (45 ∷ name) None spelled (free_dash node name spelled free) free.no_statement (absent_called node.place name none) ∙ none_counted room node.place
+
+  -- the same directly in a section
+  abbrev top : Opener
+  top = opened_at site section most_statements
+
   pub statement_of_name : (room : ℕ) (node : Node) (name : List ℕ) (number : ℕ) → IsWord node name → is_optional name ≡ false → IsFree site section name name
       → IsCallable site section name number → 0 < room → statement_at site section room node ≡ Ok (Some (next_from node number room))
-  statement_of_name room node name number spelled plain free callable some =
-      word_called room node name (Some (plain_call number)) spelled free.no_statement
-      (name_called node.place name plain ∙ ap (λ r. r >>= λ call. Ok (Some call)) (call_read node.place name number free.no_policy callable))
-      ∙ counted room node.place (plain_call number) some
+  statement_of_name room node name number spelled plain free callable some = name_by top at_the_top room node name number spelled plain free callable some
 
   pub statement_of_optional : (room : ℕ) (node : Node) (name : List ℕ) (number : ℕ) → IsWord node (45 ∷ name) → IsFree site section (45 ∷ name) name
       → IsCallable site section name number → 0 < room → statement_at site section room node ≡ Ok (Some (next_from node number room))
-  statement_of_optional room node name number spelled free callable some =
-      word_called room node (45 ∷ name) (Some (plain_call number)) spelled free.no_statement (optional_called node.place name number free.no_policy callable)
-      ∙ counted room node.place (plain_call number) some
+  statement_of_optional room node name number spelled free callable some = optional_by top at_the_top room node name number spelled free callable some
 
   pub statement_of_absent : (room : ℕ) (node : Node) (name : List ℕ) → IsWord node (45 ∷ name) → IsFree site section (45 ∷ name) name
       → number_of site.instances name ≡ None → statement_at site section room node ≡ Ok None
-  statement_of_absent room node name spelled free none =
-      word_called room node (45 ∷ name) None spelled free.no_statement (absent_called node.place name free.no_policy none) ∙ none_counted room node.place
+  statement_of_absent room node name spelled free none = absent_by top at_the_top room node name spelled free none
 
   pub statement_of_unknown : (room : ℕ) (node : Node) (name : List ℕ) → IsUnknown site section node name → statement_at site section room node ≡ Err (fault.UnknownModule node.place name)
   statement_of_unknown room node name unknown =
-      word_wrong room node name (fault.UnknownModule node.place name) unknown.spelled unknown.free.no_statement
-      (name_called node.place name unknown.plain ∙ ap (λ r. r >>= λ call. Ok (Some call)) (unknown_read node.place name unknown.free.no_policy unknown.none))
+      word_wrong top at_the_top room node name (fault.UnknownModule node.place name) unknown.spelled (free_name node name unknown.spelled unknown.plain unknown.free) unknown.free.no_statement
+      (name_called node.place name unknown.plain ∙ ap (λ r. r >>= λ call. Ok (Some call)) (unknown_read node.place name unknown.none))
 
   -- what was read so far, and how many more there is room for
   abbrev so_far : List Statement → ℕ → Members

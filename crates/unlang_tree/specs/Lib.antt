@@ -6,6 +6,8 @@ pub mod Calls
 pub mod Updates
 pub mod Sites
 pub mod Statements
+pub mod PolicyCalls
+pub mod Depths
 pub mod Groups
 pub mod Sections
 pub mod Policies

@@ -24,8 +24,9 @@ fault_at wrong.NoSuchMethod place = fault.NoSuchMethod place
 fault_at wrong.UnknownKeyword place = fault.UnknownKeyword place
 fault_at wrong.BadAction place = fault.BadAction place
 fault_at wrong.BadUpdate place = fault.BadUpdate place
-fault_at wrong.TooDeep place = fault.TooDeep place
 fault_at wrong.BadExpansion place = fault.BadExpansion place
+fault_at wrong.PolicyLoop place = fault.PolicyLoop place
+fault_at wrong.TooDeep place = fault.TooDeep place
 fault_at wrong.TooMany place = fault.TooMany place
 fault_at wrong.NotBuilt place = fault.NotBuilt place
 

@@ -9,6 +9,9 @@ use Rattle.rad_words.specs.declared.sections.Section.{Section}
 use Rattle.rad_words.specs.declared.sections.Section.TheVariants as section
 use Rattle.rad_text.specs.Read.{◌>>=◌}
 use Rattle.unlang_tree.specs.declared.fault.TreeFault.{TreeFault}
+use Rattle.unlang_tree.specs.declared.statement.Group.{out-Group}
+use Rattle.unlang_tree.specs.declared.statement.GroupForm.{GroupForm}
+use Rattle.unlang_tree.specs.declared.statement.GroupForm.TheVariants as form
 use Rattle.unlang_tree.specs.declared.statement.Statement.{Statement}
 use Rattle.unlang_tree.specs.declared.statement.StatementKind.{StatementKind, out-StatementKind}
 use Rattle.unlang_tree.specs.declared.statement.StatementKind.TheOpen as opened
@@ -63,11 +66,19 @@ name_called node = elim (out-Item node.item) [
   | level.Block kind name body ↦ Some (called_name kind.text)
 ]
 
+-- A call of a policy has its name too; another block of statements stands for no subsection.
+abbrev pub policy_name : Node → GroupForm → Option (List ℕ)
+policy_name node form.Group = None
+policy_name node form.Redundant = None
+policy_name node form.LoadBalance = None
+policy_name node form.RedundantLoadBalance = None
+policy_name node form.Policy = name_called node
+
 -- The name of the subsection that a plain call directly in authenticate stands for: a call `x` is `Auth-Type x { x }`.
 abbrev pub own_name : Node → StatementKind → Option (List ℕ)
 own_name node kind = elim (out-StatementKind kind) [
   | opened.Call call ↦ name_called node
-  | opened.Group group ↦ None
+  | opened.Group group ↦ policy_name node (out-Group group).form
   | opened.Return ↦ None
   | opened.Update lines ↦ None
 ]

@@ -1,4 +1,4 @@
--- The statements that stand for themselves: calls, words alone and updates. After the manual page unlang(5).
+-- The statements that stand for themselves: calls of instances, words alone and updates. After the manual page unlang(5).
 use Rattle.std.specs.Prelude.{ℕ, Bool, true, false, not, ◌-◌, ◌||◌, List, Option, Some, None, is_some, Result, Ok, Err, if◌then◌else◌}
 use Rattle.std.specs.List.{list_all}
 use Rattle.rad_outside.specs.declared.files.Place.{Place}
@@ -34,12 +34,12 @@ unfoldable pub counted_call : ℕ → Place → Option Call → Result (Option C
 counted_call room place None = Ok None
 counted_call room place (Some call) = one_statement room place (kinds.Call call)
 
--- A word alone: `return`, a statement that isn't built yet, or a call.
+-- A word alone that calls no policy: `return`, a statement that isn't built yet, or the call of an instance.
 unfoldable pub word_at : Site → Section → ℕ → Place → List ℕ → Result (Option Counted) TreeFault
 word_at site section room place word =
     if is_return word then one_statement room place kinds.Return
     else (if is_one_of later_words word then Err (fault.NotBuilt place)
-    else (call_at site.root site.instances section place word >>= λ call. counted_call room place call))
+    else (call_at site.instances section place word >>= λ call. counted_call room place call))
 
 -- Whether an item is a pair.
 abbrev pub is_pair : Node → Bool
@@ -59,11 +59,12 @@ with_actions levels room place pairs (Some call) = do
   overrides ← overrides_of pairs
   Ok (Some (with_room (room - 1) place (kinds.Call (record { instance = call.instance; overrides = overrides }))))
 
--- A block of a kind that is no keyword: a call with actions of its own, where it has no name and only pairs in it.
+-- A block of a kind that is no keyword, and that calls no policy: the call of an instance with actions of its own, where it has no
+-- name and only pairs in it.
 unfoldable pub call_block_at : Site → Section → ℕ → ℕ → Place → List ℕ → Option Word → List Node → Result (Option Counted) TreeFault
 call_block_at site section levels room place kind name body =
     if is_some name || not (list_all is_pair body) then Err (fault.UnknownKeyword place)
-    else (call_at site.root site.instances section place kind >>= λ call. with_actions levels room place body call)
+    else (call_at site.instances section place kind >>= λ call. with_actions levels room place body call)
 
 -- An update, where so many more blocks may be opened and the server has room for so many statements more.
 unfoldable pub update_statement : Site → ℕ → ℕ → Place → Option Word → List Node → Result (Option Counted) TreeFault

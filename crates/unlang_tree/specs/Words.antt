@@ -1,6 +1,6 @@
 -- The words of policies, after the manual pages unlang(5) and radiusd.conf(5). Keywords and the names of sections are
 -- compared without regard to ASCII case.
-use Rattle.std.specs.Prelude.{ℕ, Bool, ◌||◌, List, [], ◌∷◌, Option, Some, None, codes, if◌then◌else◌}
+use Rattle.std.specs.Prelude.{ℕ, Bool, ◌||◌, List, [], ◌∷◌, Option, Some, None, is_some, codes, if◌then◌else◌}
 use Rattle.std.specs.List.{list_any}
 use Rattle.std.specs.Str.{str_eq_ignore_ascii_case}
 use Rattle.rad_words.specs.declared.sections.Section.{Section}
@@ -57,3 +57,7 @@ form_named kind =
 abbrev pub later_blocks : List (List ℕ)
 later_blocks =
     codes "if" ∷ codes "elsif" ∷ codes "else" ∷ codes "switch" ∷ codes "foreach" ∷ codes "map" ∷ codes "parallel" ∷ []
+
+-- Whether a block of this kind is a statement of its own, and so no call.
+abbrev pub is_keyword : List ℕ → Bool
+is_keyword kind = str_eq_ignore_ascii_case kind (codes "update") || is_some (form_named kind) || is_one_of later_blocks kind

@@ -15,8 +15,9 @@ pub enum Wrong {
     UnknownKeyword,
     BadAction,
     BadUpdate,
-    TooDeep,
     BadExpansion,
+    PolicyLoop,
+    TooDeep,
     TooMany,
     NotBuilt,
 }
@@ -29,8 +30,9 @@ fn fault_at(wrong: Wrong, place: Place) -> TreeFault
         Wrong::UnknownKeyword => TreeFault::UnknownKeyword(place),
         Wrong::BadAction => TreeFault::BadAction(place),
         Wrong::BadUpdate => TreeFault::BadUpdate(place),
-        Wrong::TooDeep => TreeFault::TooDeep(place),
         Wrong::BadExpansion => TreeFault::BadExpansion(place),
+        Wrong::PolicyLoop => TreeFault::PolicyLoop(place),
+        Wrong::TooDeep => TreeFault::TooDeep(place),
         Wrong::TooMany => TreeFault::TooMany(place),
         Wrong::NotBuilt => TreeFault::NotBuilt(place),
     }

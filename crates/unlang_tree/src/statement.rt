@@ -35,6 +35,9 @@ pub enum GroupForm {
     LoadBalance,
     /// `redundant-load-balance { .. }`: begun at one of them, once round, as `redundant`.
     RedundantLoadBalance,
+    /// The call of a policy: the policy's statements, laid out where it is called, all, in order. The actions are those of
+    /// the call.
+    Policy,
 }
 
 /// A block of statements, which is judged in its parent by its own code and actions.
@@ -52,7 +55,7 @@ pub struct Group {
 pub enum StatementKind {
     /// `name`, or `-name` where there is such an instance.
     Call(Call),
-    /// `group { .. }` and its kin.
+    /// `group { .. }` and its kin, and the call of a policy.
     Group(Group),
     /// `return`: ends the section.
     Return,

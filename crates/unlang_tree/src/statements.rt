@@ -1,4 +1,4 @@
-//! Statements that hold no others: calls, words alone and updates.
+//! Statements that hold no others: calls of instances, words alone and updates.
 
 ghost use Rattle.std.specs.Prelude.{◌≡◌, ◌-◌, ◌<◌, IfOk};
 ghost use Rattle.std.specs.List.{list_all};
@@ -73,7 +73,7 @@ fn counted_call(
     one_statement(alloc, room, place, StatementKind::Call(call))
 }
 
-/// A word alone: `return`, a statement that isn't built yet, or a call.
+/// A word alone that calls no policy: `return`, a statement that isn't built yet, or the call of an instance.
 #[tactic(auto, unfolding(crate::specs::Statements::word_at))]
 pub(crate) fn word_at(
     alloc: Global,
@@ -91,7 +91,7 @@ pub(crate) fn word_at(
     if is_later_word(word) {
         return refuse(alloc, place, Wrong::NotBuilt);
     }
-    let call = call_at(alloc, site.root, site.instances, section, place, word)?;
+    let call = call_at(alloc, site.instances, section, place, word)?;
     counted_call(alloc, room, place, call)
 }
 
@@ -107,7 +107,7 @@ pub(crate) fn is_pair(node: &Node) -> bool
 }
 
 /// Whether all items are pairs.
-fn are_pairs(nodes: &[Node]) -> bool
+pub(crate) fn are_pairs(nodes: &[Node]) -> bool
     ensures { result ≡ list_all is_pair nodes.now }
 {
     nodes.iter().all(is_pair)
@@ -139,7 +139,7 @@ fn with_actions(
     Ok(Some(with_room(alloc, left, place, StatementKind::Call(call))?))
 }
 
-/// A block of a kind that is no keyword.
+/// A block of a kind that is no keyword, and that calls no policy.
 #[tactic(auto, unfolding(crate::specs::Statements::call_block_at))]
 pub(crate) fn call_block_at(
     alloc: Global,
@@ -157,7 +157,7 @@ pub(crate) fn call_block_at(
     if name.is_some() || !are_pairs(body) {
         return refuse(alloc, place, Wrong::UnknownKeyword);
     }
-    let call = call_at(alloc, site.root, site.instances, section, place, kind)?;
+    let call = call_at(alloc, site.instances, section, place, kind)?;
     with_actions(alloc, levels, room, place, body, call)
 }
 

@@ -4,14 +4,14 @@ ghost use Rattle.std.specs.Prelude.{◌≡◌, [], OnOk};
 ghost use Rattle.std.specs.Option.{option_map, option_copied};
 ghost use Rattle.unlang_tree.specs.Readings.{Gives, Leaves};
 ghost use Rattle.unlang_tree.specs.Sites.{site_of};
-ghost use Rattle.unlang_tree.specs.Sections.{subsection_word, is_subsection, subsection_block, with_subsection, name_called, own_name, with_call, with_run, with_own, with_written, with_one, with_part, parts_of};
+ghost use Rattle.unlang_tree.specs.Sections.{subsection_word, is_subsection, subsection_block, with_subsection, name_called, policy_name, own_name, with_call, with_run, with_own, with_written, with_one, with_part, parts_of};
 
 use crate::calls::called_name;
 use crate::fault::TreeFault;
 use crate::groups::{members_of, statement_at};
 use crate::policies::{Subsection, Subsections};
 use crate::site::SiteRef;
-use crate::statement::{Statement, StatementKind, Statements};
+use crate::statement::{GroupForm, Statement, StatementKind, Statements};
 use crate::statements::Counted;
 use rad_conf::{Item, Node};
 use rad_outside::{NoMemory, Octets};
@@ -95,13 +95,26 @@ fn name_called(node: &Node) -> Option<&[u8]>
     }
 }
 
+/// The name that the call of a policy has; another block of statements has none.
+fn policy_name(node: &Node, form: GroupForm) -> Option<&[u8]>
+    ensures { option_copied result ≡ policy_name node.now form }
+{
+    match form {
+        GroupForm::Group
+        | GroupForm::Redundant
+        | GroupForm::LoadBalance
+        | GroupForm::RedundantLoadBalance => None,
+        GroupForm::Policy => name_called(node),
+    }
+}
+
 /// The name of the subsection that a plain call directly in authenticate stands for.
 fn own_name<'a>(node: &'a Node, kind: &StatementKind) -> Option<&'a [u8]>
     ensures { option_copied result ≡ own_name node.now kind.now }
 {
     match kind {
         StatementKind::Call(_) => name_called(node),
-        StatementKind::Group(_) => None,
+        StatementKind::Group(group) => policy_name(node, group.form),
         StatementKind::Return => None,
         StatementKind::Update(_) => None,
     }

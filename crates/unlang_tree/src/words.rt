@@ -1,9 +1,9 @@
 //! The words of policies.
 
-ghost use Rattle.std.specs.Prelude.{◌≡◌};
+ghost use Rattle.std.specs.Prelude.{◌≡◌, codes};
 ghost use Rattle.std.specs.List.{list_any};
 ghost use Rattle.std.specs.Str.{str_eq_ignore_ascii_case};
-ghost use Rattle.unlang_tree.specs.Words.{word_of, section_of, is_one_of, is_return, later_words, form_named, later_blocks};
+ghost use Rattle.unlang_tree.specs.Words.{word_of, section_of, is_one_of, is_return, later_words, is_word_statement, form_named, later_blocks, is_keyword};
 
 use crate::statement::GroupForm;
 use rad_words::Section;
@@ -71,6 +71,13 @@ pub(crate) fn is_later_word(word: &[u8]) -> bool
     is_one_of(&[b"break"], word)
 }
 
+/// Whether a word alone is a statement, and so no call.
+pub(crate) fn is_word_statement(word: &[u8]) -> bool
+    ensures { result ≡ is_word_statement word.now }
+{
+    is_return(word) || is_later_word(word)
+}
+
 /// The form of a block of statements, by its kind.
 #[tactic(auto, unfolding(crate::specs::Words::form_named))]
 pub(crate) fn form_named(kind: &[u8]) -> Option<GroupForm>
@@ -105,4 +112,18 @@ pub(crate) fn is_later_block(kind: &[u8]) -> bool
     ensures { result ≡ is_one_of later_blocks kind.now }
 {
     is_one_of(&LATER_BLOCKS, kind)
+}
+
+/// Whether a block of this kind is an update.
+pub(crate) fn is_update(kind: &[u8]) -> bool
+    ensures { result ≡ str_eq_ignore_ascii_case kind.now (codes "update") }
+{
+    kind.eq_ignore_ascii_case(b"update")
+}
+
+/// Whether a block of this kind is a statement of its own, and so no call.
+pub(crate) fn is_keyword(kind: &[u8]) -> bool
+    ensures { result ≡ is_keyword kind.now }
+{
+    is_update(kind) || form_named(kind).is_some() || is_later_block(kind)
 }
