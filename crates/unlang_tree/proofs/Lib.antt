@@ -1,4 +1,5 @@
 mod InstanceLemmas
+mod CallLemmas
 mod Walks
 mod GroupLevels
 mod WrittenCalls

@@ -1,11 +1,12 @@
 //! What the names among the statements of a section call: policies, and instances of modules.
 
-ghost use Rattle.std.specs.Prelude.{◌≡◌, ◌++◌, codes, Err, IfOk};
+ghost use Rattle.std.specs.Prelude.{◌≡◌, ◌++◌, codes, is_some, Err, IfOk};
 ghost use Rattle.std.specs.List.{list_any, find};
 ghost use Rattle.std.specs.Option.{option_copied};
 ghost use Rattle.unlang_tree.specs.Readings.{Gives};
+ghost use Rattle.unlang_tree.specs.Instances.{number_of};
 ghost use Rattle.unlang_tree.specs.Words.{word_of};
-ghost use Rattle.unlang_tree.specs.Calls.{nodes_of, is_block, policies_with, policy_named, policy_for, kind_of, body_of, can_be_called, call_of, is_optional, called_name, is_unwritten, call_at, is_entered, not_open};
+ghost use Rattle.unlang_tree.specs.Calls.{nodes_of, is_block, policies_with, policy_named, policy_for, kind_of, body_of, can_be_called, call_of, is_optional, called_name, call_at, is_entered, not_open};
 
 use crate::fault::TreeFault;
 use crate::instances::Instances;
@@ -188,17 +189,11 @@ pub(crate) fn called_name(word: &[u8]) -> &[u8]
     }
 }
 
-/// Whether a word that calls no policy counts as not written.
-fn is_unwritten(instances: &Instances, word: &[u8]) -> bool
-    ensures { result ≡ is_unwritten instances.now word.now }
+/// Whether there is an instance of this name.
+fn has_instance(instances: &Instances, name: &[u8]) -> bool
+    ensures { result ≡ is_some (number_of instances.now name.now) }
 {
-    if !is_optional(word) {
-        return false;
-    }
-    match instances.find(called_name(word)) {
-        None => true,
-        Some(_) => false,
-    }
+    instances.find(name).is_some()
 }
 
 /// The call of an instance by a word that calls no policy; none where it counts as not written.
@@ -213,7 +208,7 @@ pub(crate) fn call_at(
     ensures { Gives result (call_at instances.now section place.now word.now) }
 {
     let name = called_name(word);
-    if is_unwritten(instances, word) {
+    if is_optional(word) && !has_instance(instances, name) {
         return Ok(None);
     }
     let call = call_of(alloc, instances, section, place, name)?;

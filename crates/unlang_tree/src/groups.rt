@@ -146,7 +146,9 @@ fn group_at(
     };
     let none = Overrides::new(alloc);
     let left = room.saturating_sub(1);
-    let members = members_in(alloc, site, section, within, &inner, place, form, none, left, body)?;
+    let members = members_in(
+        alloc, site, section, within, &inner, place, form, none, left, body,
+    )?;
     let left = members.room;
     Ok(with_room(alloc, left, place, group_of(form, members))?)
 }
@@ -180,7 +182,9 @@ fn policy_call(
     let form = GroupForm::Policy;
     let left = room.saturating_sub(1);
     let body = body_of(policy);
-    let members = members_in(alloc, site, section, within, &inner, place, form, own, left, body)?;
+    let members = members_in(
+        alloc, site, section, within, &inner, place, form, own, left, body,
+    )?;
     let rest = members.room;
     Ok(with_room(alloc, rest, place, group_of(form, members))?)
 }
@@ -288,7 +292,16 @@ fn each_member(
 {
     let mut members = first;
     for node in body {
-        with_member(alloc, site, section, within, depth, form, &mut members, node)?;
+        with_member(
+            alloc,
+            site,
+            section,
+            within,
+            depth,
+            form,
+            &mut members,
+            node,
+        )?;
     }
     Ok(members)
 }
