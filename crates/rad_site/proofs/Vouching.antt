@@ -131,6 +131,7 @@ module _ (Has : List ℕ → PairLists → Type 0) where
   formed_sound form.Redundant pieces all s = block_sound Redundant pieces all s
   formed_sound form.LoadBalance pieces all s = balanced_sound Plain pieces all s
   formed_sound form.RedundantLoadBalance pieces all s = balanced_sound Redundant pieces all s
+  formed_sound form.Policy pieces all s = block_sound Plain pieces all s
 
   by_last : (s : Situation) (children : List Child) (last : Option Child) → AllByRecursion (Vouches s) children → find ends children ≡ last
       → (elim last as (λ _. Option Code) [ Some c ↦ Some (ending_code c) | None ↦ option_map (λ (c : Child). c.code) (heaviest children) ]) ≡ Some code.Ok → HasIn s

@@ -13,7 +13,7 @@ use shared_cases::{Form, Tally};
 use std::process::ExitCode;
 
 /// The files of cases.
-const FILES: [&str; 9] = [
+const FILES: [&str; 10] = [
     "serving.cases",
     "repeats.cases",
     "failing.cases",
@@ -22,6 +22,7 @@ const FILES: [&str; 9] = [
     "users.cases",
     "updates.cases",
     "blocks.cases",
+    "policies.cases",
     "dictionaries.cases",
 ];
 

@@ -73,6 +73,7 @@ module _ (R : Situation → Situation → Type 0) (lasting : IsLasting R) where
   formed_leads form.Redundant pieces all s = block_leads Redundant pieces all s
   formed_leads form.LoadBalance pieces all s = balanced_leads Plain pieces all s
   formed_leads form.RedundantLoadBalance pieces all s = balanced_leads Redundant pieces all s
+  formed_leads form.Policy pieces all s = block_leads Plain pieces all s
 
   module _ {M : Type 0} (meaning : Meaning M) (stack : List M) (dict : Definitions) (section : Section) where
     call_leads : (kind : GroupKind) (overrides : List Override) (m : Option M) (s : Situation) → R s (module_done meaning dict section m s) → R s (called_of meaning dict section kind overrides m s).situation

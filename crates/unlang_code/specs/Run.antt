@@ -153,12 +153,13 @@ abbrev pub picked_of : Scope → ℕ → Option ℕ
 picked_of scope members = if members == 0 then None else Some (picked scope members)
 
 -- The members of a block of this form: `group` and `redundant` run them in order, `load-balance` one of them, and
--- `redundant-load-balance` all from that one on.
+-- `redundant-load-balance` all from that one on. The statements of a policy run where it is called, as those of a `group`.
 abbrev pub formed : GroupForm → List Piece → Situation → Outcome
 formed form.Group pieces = block_of Plain pieces
 formed form.Redundant pieces = block_of Redundant pieces
 formed form.LoadBalance pieces = balanced_in Plain pieces
 formed form.RedundantLoadBalance pieces = balanced_in Redundant pieces
+formed form.Policy pieces = block_of Plain pieces
 
 -- The child that a block gives its group: by its own code and actions, and none where it has no code.
 abbrev pub child_by : Section → GroupKind → List Override → Option Code → List Child

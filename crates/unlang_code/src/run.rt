@@ -315,6 +315,9 @@ fn run_formed<M: Module, W: World, O: Observer>(
         GroupForm::RedundantLoadBalance => run_balanced(
             alloc, stack, section, redundant, statements, scope, world, dict, observer,
         ),
+        GroupForm::Policy => run_in_order(
+            alloc, stack, section, plain, statements, scope, world, dict, observer,
+        ),
     }
 }
 

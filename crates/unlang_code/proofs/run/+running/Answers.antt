@@ -160,6 +160,9 @@ pub run_formed-returns-in-RedundantLoadBalance-clause-memory :
     goal.run_formed-returns-in-RedundantLoadBalance-clause-memory
 run_formed-returns-in-RedundantLoadBalance-clause-memory g t c = rw c.in-RedundantLoadBalance.is c.run_balanced-in-RedundantLoadBalance.ensures.memory
 
+pub run_formed-returns-in-Policy-clause-memory : goal.run_formed-returns-in-Policy-clause-memory
+run_formed-returns-in-Policy-clause-memory g t c = rw c.in-Policy.is c.run_in_order-in-Policy.ensures.memory
+
 pub run_group-returns-in_err-ended-clause-memory :
     goal.run_group-returns-in_err-ended-clause-memory
 run_group-returns-in_err-ended-clause-memory g t c =
