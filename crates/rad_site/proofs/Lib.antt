@@ -12,6 +12,7 @@ pub mod UsersFiles
 pub mod Sites
 pub mod Dictionaries
 pub mod Building
+pub mod RealmsSaid
 pub mod AuthTypes
 pub mod ByLeaves
 pub mod Vouching

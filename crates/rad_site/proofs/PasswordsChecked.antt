@@ -133,12 +133,14 @@ pap_shows dict (site.Always m) s is_pap is = absurd is_pap
 pap_shows dict (site.Files m) s is_pap is = absurd is_pap
 pap_shows dict (site.Pap m) s is_pap is = (pap_lets_in s.scope.lists).0 is
 pap_shows dict (site.Chap m) s is_pap is = absurd is_pap
+pap_shows dict (site.Realm m) s is_pap is = absurd is_pap
 
 pub chap_shows : (dict : Definitions) → Shows dict IsChap HasTheDigest
 chap_shows dict (site.Always m) s is_chap is = absurd is_chap
 chap_shows dict (site.Files m) s is_chap is = absurd is_chap
 chap_shows dict (site.Pap m) s is_chap is = absurd is_chap
 chap_shows dict (site.Chap m) s is_chap is = (chap_lets_in s.scope.authenticator s.scope.lists).0 is
+chap_shows dict (site.Realm m) s is_chap is = absurd is_chap
 
 pub either_shows : (dict : Definitions) → Shows dict IsPapOrChap KnowsOrHas
 either_shows dict m s (inl is_pap) is = inl (pap_shows dict m s is_pap is)

@@ -13,6 +13,9 @@ pub mod Items
 pub mod Numbers
 pub mod Settings
 pub mod ClientBlock
+pub mod RealmBlock
+pub mod RealmsSaid
+pub mod RealmSettings
 pub mod Modules
 pub mod ModulesBlock
 pub mod ListenBlock

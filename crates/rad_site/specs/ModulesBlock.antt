@@ -1,5 +1,5 @@
 -- The modules of a site, `modules { kind [name] { settings } }`, and the files that they name. After the manual pages
--- radiusd.conf(5), rlm_always(5), rlm_files(5) and rlm_pap(5).
+-- radiusd.conf(5), rlm_always(5), rlm_files(5), rlm_pap(5) and rlm_realm(5).
 use Rattle.std.specs.Prelude.{ℕ, Bool, false, ◌||◌, ◌==◌, find, List, [], ◌∷◌, length, nat_lt, slice_index, Option, Some, None, Result, Ok, Err, codes, if◌then◌else◌}
 use Rattle.std.specs.List.{list_any}
 use Rattle.std.specs.Option.{option_and_then, option_map_or}
@@ -21,6 +21,7 @@ use Rattle.mod_users.specs.declared.fault.UsersFault.{UsersFault}
 use Rattle.mod_users.specs.declared.form.Form.TheVariants.{Reply}
 use Rattle.mod_users.specs.Users.{users_of_text}
 use Rattle.mod_users.specs.Module.{module_by}
+use Rattle.mod_realm.specs.declared.realms.Realm.{Realm}
 use Rattle.rad_site.specs.declared.fault.BuildFault.{BuildFault}
 use Rattle.rad_site.specs.declared.fault.BuildFault.TheVariants as fault
 use Rattle.rad_site.specs.declared.site_module.SiteModule.{SiteModule}
@@ -28,6 +29,8 @@ use Rattle.rad_site.specs.declared.site_module.SiteModule.TheVariants as site
 use Rattle.rad_site.specs.Codes.{code_named}
 use Rattle.rad_site.specs.Nodes.{◌>>=◌, refused, bad_setting, formed, after_each}
 use Rattle.rad_site.specs.Items.{setting_of, is_pair_of, pair_named, nodes_of}
+use Rattle.rad_site.specs.RealmBlock.{realms_in}
+use Rattle.rad_site.specs.RealmSettings.{parting_of}
 use Rattle.rad_site.specs.Modules.{Modules, no_modules, is_taken, has_room, and_module, with_codes}
 
 -- The path of a file that a setting names: below the site's folder, or as it stands where it begins with `/`.
@@ -72,7 +75,7 @@ always_by place (Some node) = formed node.place (codes "rcode") (rcode_at node) 
 
 -- The kinds of modules that aren't built yet.
 abbrev pub later_kinds : List (List ℕ)
-later_kinds = codes "realm" ∷ codes "attr_filter" ∷ codes "detail" ∷ codes "radutmp" ∷ []
+later_kinds = codes "attr_filter" ∷ codes "detail" ∷ codes "radutmp" ∷ []
 
 -- Whether a kind isn't built yet.
 abbrev pub is_later : List ℕ → Bool
@@ -140,6 +143,20 @@ unfoldable pub module_of : Sources → Definitions → Place → List ℕ → Li
 module_of sources dict place kind name items =
     if is_files kind then files_module sources dict place items else plain_module place kind name items
 
+-- A block of this kind is of `realm`.
+abbrev pub is_realm : List ℕ → Bool
+is_realm kind = bytes_eq kind (codes "realm")
+
+-- The module `realm` over these realms, by its settings.
+unfoldable pub realm_module : List Realm → List Node → Result SiteModule BuildFault
+realm_module realms items =
+    parting_of items >>= λ parting. Ok (site.Realm (record { realms = realms; format = parting.0; delimiter = parting.1 }))
+
+-- The module of a block of a site with these realms.
+unfoldable pub instance_of : Sources → Definitions → List Realm → Place → List ℕ → List ℕ → List Node → Result SiteModule BuildFault
+instance_of sources dict realms place kind name items =
+    if is_realm kind then realm_module realms items else module_of sources dict place kind name items
+
 -- The modules with one by this name, where there is room for it.
 unfoldable pub and_room : Place → Modules → List ℕ → SiteModule → Result Modules BuildFault
 and_room place known name m = if has_room known name then Ok (and_module known name m) else bad_setting place name
@@ -148,7 +165,7 @@ and_room place known name m = if has_room known name then Ok (and_module known n
 unfoldable pub with_instance : Sources → Definitions → Modules → Place → List ℕ → List ℕ → List Node → Result Modules BuildFault
 with_instance sources dict known place kind name items =
     if is_taken known name then bad_setting place name
-    else (module_of sources dict place kind name items >>= λ m. and_room place known name m)
+    else (instance_of sources dict known.realms place kind name items >>= λ m. and_room place known name m)
 
 -- The kind, the instance's name and the items of a block of a module: the instance has the name of the block, or else that
 -- of its kind.
@@ -171,6 +188,10 @@ with_module sources dict known node = elim (module_block node) [
 unfoldable pub with_modules : Sources → Definitions → Modules → Node → Result Modules BuildFault
 with_modules sources dict known node = after_each (with_module sources dict) known (nodes_of (codes "modules") node)
 
--- The modules of a whole configuration: those of its blocks, and those of the return codes.
+-- The modules of a whole configuration with these realms: those of its blocks, and those of the return codes.
+unfoldable pub modules_over : Sources → Definitions → List Realm → List Node → Result Modules BuildFault
+modules_over sources dict realms nodes = after_each (with_modules sources dict) (no_modules realms) nodes >>= λ known. Ok (with_codes known)
+
+-- The modules of a whole configuration: its realms first, and then its modules over them.
 unfoldable pub modules_in : Sources → Definitions → List Node → Result Modules BuildFault
-modules_in sources dict nodes = after_each (with_modules sources dict) no_modules nodes >>= λ known. Ok (with_codes known)
+modules_in sources dict nodes = realms_in nodes >>= λ realms. modules_over sources dict realms nodes

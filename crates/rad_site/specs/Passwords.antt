@@ -54,6 +54,7 @@ module_accepts (site.Always m) = false
 module_accepts (site.Files m) = files.edits m Control auth_type
 module_accepts (site.Pap m) = is_accept m.name
 module_accepts (site.Chap m) = is_accept m.name
+module_accepts (site.Realm m) = false
 
 -- So can a call of it.
 abbrev pub call_accepts : Option SiteModule → Bool
@@ -75,6 +76,7 @@ IsPap (site.Always m) = ⊥
 IsPap (site.Files m) = ⊥
 IsPap (site.Pap m) = Unit {0}
 IsPap (site.Chap m) = ⊥
+IsPap (site.Realm m) = ⊥
 
 -- A module is an instance of `chap`.
 abbrev pub IsChap : SiteModule → Type 0
@@ -82,6 +84,7 @@ IsChap (site.Always m) = ⊥
 IsChap (site.Files m) = ⊥
 IsChap (site.Pap m) = ⊥
 IsChap (site.Chap m) = Unit {0}
+IsChap (site.Realm m) = ⊥
 
 -- A module is an instance of `pap` or of `chap`.
 abbrev pub IsPapOrChap : SiteModule → Type 0

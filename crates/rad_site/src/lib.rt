@@ -23,7 +23,8 @@ pub use build::fault_text;
 pub use fault::BuildFault;
 pub use generation::Generation;
 pub use laws::{
-    challenges_let_requests_in, passwords_and_challenges_let_requests_in, passwords_let_requests_in,
+    challenges_let_requests_in, passwords_and_challenges_let_requests_in,
+    passwords_let_requests_in, realms_are_what_their_blocks_say,
 };
 pub use settings::Settings;
 pub use site_module::SiteModule;

@@ -5,6 +5,7 @@ ghost use Rattle.rad_site.specs.SiteLaws.{site_module_lawful};
 
 use mod_auth::{Chap, Pap};
 use mod_base::{Always, MethodSet, Module, World};
+use mod_realm::RealmModule;
 use mod_users::FilesModule;
 use rad_dict::Dict;
 use rad_outside::NoMemory;
@@ -23,6 +24,8 @@ pub enum SiteModule {
     Pap(Pap),
     /// `chap { }`
     Chap(Chap),
+    /// `realm { format = suffix, delimiter = OCTET }`
+    Realm(RealmModule),
 }
 
 impl Module for SiteModule {
@@ -34,6 +37,7 @@ impl Module for SiteModule {
             SiteModule::Files(files) => files.methods(),
             SiteModule::Pap(pap) => pap.methods(),
             SiteModule::Chap(chap) => chap.methods(),
+            SiteModule::Realm(realm) => realm.methods(),
         }
     }
 
@@ -50,6 +54,7 @@ impl Module for SiteModule {
             SiteModule::Files(files) => files.call(alloc, method, scope, world, dict),
             SiteModule::Pap(pap) => pap.call(alloc, method, scope, world, dict),
             SiteModule::Chap(chap) => chap.call(alloc, method, scope, world, dict),
+            SiteModule::Realm(realm) => realm.call(alloc, method, scope, world, dict),
         }
     }
 

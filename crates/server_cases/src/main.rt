@@ -13,7 +13,7 @@ use shared_cases::{Form, Tally};
 use std::process::ExitCode;
 
 /// The files of cases.
-const FILES: [&str; 10] = [
+const FILES: [&str; 11] = [
     "serving.cases",
     "repeats.cases",
     "failing.cases",
@@ -23,6 +23,7 @@ const FILES: [&str; 10] = [
     "updates.cases",
     "blocks.cases",
     "policies.cases",
+    "realms.cases",
     "dictionaries.cases",
 ];
 

@@ -1,30 +1,36 @@
 //! The modules of a site.
 
-ghost use Rattle.std.specs.Prelude.{◌≡◌, false};
+ghost use Rattle.std.specs.Prelude.{◌≡◌, false, Ok, IfOk, IfErr};
+ghost use Rattle.std.specs.Arc.{arc_value};
 ghost use Rattle.std.specs.List.{find};
 ghost use Rattle.std.specs.Option.{option_map, option_copied};
 ghost use Rattle.rad_outside.specs.Telling.{Counts};
 ghost use Rattle.unlang_xlat.specs.Faults.{parsed};
-ghost use Rattle.rad_site.specs.Nodes.{Gives, after_each};
+ghost use Rattle.rad_site.specs.Nodes.{Gives, Fails, after_each};
+ghost use Rattle.rad_site.specs.RealmBlock.{realms_in};
 ghost use Rattle.rad_site.specs.Sources.{FindsIn};
 ghost use Rattle.rad_site.specs.Modules.{no_modules, is_taken};
-ghost use Rattle.rad_site.specs.ModulesBlock.{rcode_at, always_by, is_later, plain_module, key_or_refused, key_by, files_with, file_then_key, key_then_file, is_files_pair, has_key_first, files_module, is_files, module_of, and_room, with_instance, module_block, with_module, with_modules, modules_in};
+ghost use Rattle.rad_site.specs.ModulesBlock.{rcode_at, always_by, is_later, plain_module, key_or_refused, key_by, files_with, file_then_key, key_then_file, is_files_pair, has_key_first, files_module, is_files, module_of, is_realm, realm_module, instance_of, and_room, with_instance, module_block, with_module, with_modules, modules_over, modules_in};
 
 use crate::build::codes::code_named;
 use crate::build::instances::Modules;
 use crate::build::item::{is_pair_of, nodes_of, pair_named, setting_of};
+use crate::build::realm_settings::{is_realm, realm_module};
+use crate::build::realms::realms_in;
 use crate::build::refusal::{refuse, refuse_setting, unknown_module};
 use crate::build::users::users_by;
 use crate::fault::BuildFault;
 use crate::site_module::SiteModule;
 use mod_auth::{Chap, Pap};
 use mod_base::Always;
+use mod_realm::Realms;
 use mod_users::{FilesModule, Users};
 use rad_conf::{Item, Node};
 use rad_dict::Dict;
 use rad_outside::{Files, Octets, Place};
 use rad_words::Code;
 use std::alloc::Global;
+use std::sync::Arc;
 use unlang_xlat::{Xlat, XlatFault};
 
 /// The key of `files` where none is set: the user's name, without its realm where that was taken off.
@@ -58,8 +64,7 @@ fn always_by(alloc: Global, place: &Place, setting: Option<&Node>) -> Result<Sit
 fn is_later(kind: &[u8]) -> bool
     ensures { result ≡ is_later kind.now }
 {
-    kind == b"realm".as_slice()
-        || kind == b"attr_filter".as_slice()
+    kind == b"attr_filter".as_slice()
         || kind == b"detail".as_slice()
         || kind == b"radutmp".as_slice()
 }
@@ -241,6 +246,29 @@ fn module_of<F: Files>(
     plain_module(alloc, place, kind, name, items)
 }
 
+/// The module of a block of a site with these realms.
+#[tactic(auto, unfolding(crate::specs::ModulesBlock::instance_of))]
+fn instance_of<F: Files>(
+    alloc: Global,
+    files: &mut F,
+    dir: &str,
+    dict: &Dict,
+    realms: &Arc<Realms>,
+    place: &Place,
+    kind: &[u8],
+    name: &[u8],
+    items: &[Node],
+) -> Result<SiteModule, BuildFault>
+    ensures told { FindsIn dir.now (λ sources. instance_of sources dict.now (arc_value realms.now) place.now kind.now name.now items.now) result
+        (F.told files.old) (F.told files.new) }
+    ensures faults { Counts (F.faults files.old) (F.faults files.new) (result ≡ Err BuildFault.ReadFault) }
+{
+    if is_realm(kind) {
+        return realm_module(alloc, realms, items);
+    }
+    module_of(alloc, files, dir, dict, place, kind, name, items)
+}
+
 /// The modules with one by this name, which isn't taken, where there is room for it.
 #[tactic(auto, unfolding(crate::specs::ModulesBlock::and_room))]
 fn and_room(
@@ -278,7 +306,17 @@ fn with_instance<F: Files>(
     if known.is_taken(name) {
         return refuse_setting(alloc, place, name);
     }
-    let module = module_of(alloc, files, dir, dict, place, kind, name, items)?;
+    let module = instance_of(
+        alloc,
+        files,
+        dir,
+        dict,
+        known.realms(),
+        place,
+        kind,
+        name,
+        items,
+    )?;
     and_room(alloc, place, known, name, module)
 }
 
@@ -368,20 +406,48 @@ fn configured_in<F: Files>(
     files: &mut F,
     dir: &str,
     dict: &Dict,
+    realms: Arc<Realms>,
     nodes: &[Node],
 ) -> Result<Modules, BuildFault>
-    ensures told { FindsIn dir.now (λ sources. after_each (with_modules sources dict.now) no_modules nodes.now) result
+    ensures told { FindsIn dir.now (λ sources. after_each (with_modules sources dict.now) (no_modules (arc_value realms)) nodes.now) result
         (F.told files.old) (F.told files.new) }
     ensures faults { Counts (F.faults files.old) (F.faults files.new) (result ≡ Err BuildFault.ReadFault) }
 {
-    let mut known = Modules::new(alloc);
+    let mut known = Modules::new(alloc, realms);
     for node in nodes {
         known = with_modules(alloc, files, dir, dict, known, node)?;
     }
     Ok(known)
 }
 
-/// The modules of a whole configuration: those of its blocks, and those of the return codes.
+/// The modules of a whole configuration with these realms: those of its blocks, and those of the return codes.
+fn modules_over<F: Files>(
+    alloc: Global,
+    files: &mut F,
+    dir: &str,
+    dict: &Dict,
+    realms: Arc<Realms>,
+    nodes: &[Node],
+) -> Result<Modules, BuildFault>
+    ensures told { FindsIn dir.now (λ sources. modules_over sources dict.now (arc_value realms) nodes.now) result
+        (F.told files.old) (F.told files.new) }
+    ensures faults { Counts (F.faults files.old) (F.faults files.new) (result ≡ Err BuildFault.ReadFault) }
+{
+    let known = configured_in(alloc, files, dir, dict, realms, nodes)?;
+    let modules = known.with_codes()?;
+    Ok(modules)
+}
+
+/// The realms of a configuration, which its modules share.
+fn shared_realms(alloc: Global, nodes: &[Node]) -> Result<Arc<Realms>, BuildFault>
+    ensures fault { IfErr result (λ e. Fails e (realms_in nodes.now)) }
+    ensures realms { IfOk result (λ realms. realms_in nodes.now ≡ Ok (arc_value realms)) }
+{
+    let realms = realms_in(alloc, nodes)?;
+    Ok(Arc::new(alloc, realms)?)
+}
+
+/// The modules of a whole configuration: its realms first, and then its modules over them.
 pub(crate) fn modules_in<F: Files>(
     alloc: Global,
     files: &mut F,
@@ -393,7 +459,6 @@ pub(crate) fn modules_in<F: Files>(
         (F.told files.old) (F.told files.new) }
     ensures faults { Counts (F.faults files.old) (F.faults files.new) (result ≡ Err BuildFault.ReadFault) }
 {
-    let known = configured_in(alloc, files, dir, dict, nodes)?;
-    let modules = known.with_codes()?;
-    Ok(modules)
+    let realms = shared_realms(alloc, nodes)?;
+    modules_over(alloc, files, dir, dict, realms, nodes)
 }

@@ -8,6 +8,6 @@ use Rattle.rad_site.proofs.build.modules.configured_in.Given as goal
 
 abbrev pub invariant-loop-node : goal.invariant-loop-node
 invariant-loop-node g l = record {
-  read : Tells (g.F.Files.told l.initial.files) (g.F.Files.told l.files) (Reads l.dir (λ (sources : Sources). with_modules sources l.dict) no_modules l.known (drop l.node-index l.nodes) l.nodes);
+  read : Tells (g.F.Files.told l.initial.files) (g.F.Files.told l.files) (Reads l.dir (λ (sources : Sources). with_modules sources l.dict) (no_modules l.initial.realms.value) l.known (drop l.node-index l.nodes) l.nodes);
   later : g.F.Files.faults l.initial.files ≤ g.F.Files.faults l.files;
 }
