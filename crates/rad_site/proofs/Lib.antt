@@ -6,7 +6,6 @@ pub mod Served
 pub mod Scopes
 pub mod Trees
 pub mod Requests
-pub mod Kept
 pub mod Finding
 pub mod UsersFiles
 pub mod Sites
@@ -17,3 +16,6 @@ pub mod AuthTypes
 pub mod ByLeaves
 pub mod Vouching
 pub mod PasswordsChecked
+pub mod PostAuth
+pub mod Accepted
+pub mod Rejected

@@ -26,7 +26,7 @@ use Rattle.rad_site.specs.declared.site_module.SiteModule.{SiteModule}
 use Rattle.rad_site.specs.declared.site_module.SiteModule.TheVariants as site
 use Rattle.rad_site.specs.declared.verdict.Verdict.{Verdict}
 use Rattle.rad_site.specs.declared.verdict.Verdict.TheVariants as verdict
-use Rattle.rad_site.specs.Access.{after_authorize, after_authenticate, section_named, route_of, done_in, authorized_by, authorized, decided_there, decided_behind, decided}
+use Rattle.rad_site.specs.Access.{after_authorize, after_authenticate, section_named, route_of, done_in, authorized_by, authorized, decided_there, decided_behind, let_in}
 use Rattle.rad_site.specs.Attributes.{auth_type}
 use Rattle.rad_site.specs.Passwords.{is_accept, NeverAccept, IsPap, IsChap, IsPapOrChap, LetsInBy}
 use Rattle.rad_site.specs.Policies.{Policies}
@@ -112,9 +112,9 @@ module _ (policies : Policies) (dict : Definitions) (IsOfKind : SiteModule → T
       never_at_once (done_in policies dict id s).1,
     )
 
-    -- An accepted request has it, behind authorize.
-    pub accepted_has : (s : Situation) → s.scope.lists.control ≡ [] → (decided policies dict server s).1 ≡ verdict.Accept → HasHere (authorized policies dict server s).0
-    unfolding decided
+    -- A request that was let in has it, behind authorize.
+    pub accepted_has : (s : Situation) → s.scope.lists.control ≡ [] → (let_in policies dict server s).1 ≡ verdict.Accept → HasHere (authorized policies dict server s).0
+    unfolding let_in
     accepted_has s empty is =
         let done = authorized policies dict server s in
         let begins : Never s.scope.lists = rw empty tt in
@@ -134,6 +134,7 @@ pap_shows dict (site.Files m) s is_pap is = absurd is_pap
 pap_shows dict (site.Pap m) s is_pap is = (pap_lets_in s.scope.lists).0 is
 pap_shows dict (site.Chap m) s is_pap is = absurd is_pap
 pap_shows dict (site.Realm m) s is_pap is = absurd is_pap
+pap_shows dict (site.Filter m) s is_pap is = absurd is_pap
 
 pub chap_shows : (dict : Definitions) → Shows dict IsChap HasTheDigest
 chap_shows dict (site.Always m) s is_chap is = absurd is_chap
@@ -141,6 +142,7 @@ chap_shows dict (site.Files m) s is_chap is = absurd is_chap
 chap_shows dict (site.Pap m) s is_chap is = absurd is_chap
 chap_shows dict (site.Chap m) s is_chap is = (chap_lets_in s.scope.authenticator s.scope.lists).0 is
 chap_shows dict (site.Realm m) s is_chap is = absurd is_chap
+chap_shows dict (site.Filter m) s is_chap is = absurd is_chap
 
 pub either_shows : (dict : Definitions) → Shows dict IsPapOrChap KnowsOrHas
 either_shows dict m s (inl is_pap) is = inl (pap_shows dict m s is_pap is)

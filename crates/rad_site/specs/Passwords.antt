@@ -48,13 +48,14 @@ abbrev pub line_accepts : Line → Bool
 line_accepts line = same_list line.list Control && same_attr auth_type line.attr.id && right_accepts line.right
 
 -- A module can bring Auth-Type to `Accept`: one whose users' items name Auth-Type, and one that sets it to its own name, where
--- that is so.
+-- that is so. A filter leaves the control list alone.
 abbrev pub module_accepts : SiteModule → Bool
 module_accepts (site.Always m) = false
 module_accepts (site.Files m) = files.edits m Control auth_type
 module_accepts (site.Pap m) = is_accept m.name
 module_accepts (site.Chap m) = is_accept m.name
 module_accepts (site.Realm m) = false
+module_accepts (site.Filter m) = false
 
 -- So can a call of it.
 abbrev pub call_accepts : Option SiteModule → Bool
@@ -77,6 +78,7 @@ IsPap (site.Files m) = ⊥
 IsPap (site.Pap m) = Unit {0}
 IsPap (site.Chap m) = ⊥
 IsPap (site.Realm m) = ⊥
+IsPap (site.Filter m) = ⊥
 
 -- A module is an instance of `chap`.
 abbrev pub IsChap : SiteModule → Type 0
@@ -85,6 +87,7 @@ IsChap (site.Files m) = ⊥
 IsChap (site.Pap m) = ⊥
 IsChap (site.Chap m) = Unit {0}
 IsChap (site.Realm m) = ⊥
+IsChap (site.Filter m) = ⊥
 
 -- A module is an instance of `pap` or of `chap`.
 abbrev pub IsPapOrChap : SiteModule → Type 0

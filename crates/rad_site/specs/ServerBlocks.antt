@@ -39,7 +39,7 @@ and_listener known name place bound =
 
 -- Sections that no request runs yet: they are refused, so that none is passed over in silence.
 abbrev pub is_later : Node → Bool
-is_later node = is_section (codes "session") node || is_section (codes "preacct") node || is_section (codes "accounting") node || is_section (codes "post-auth") node
+is_later node = is_section (codes "session") node || is_section (codes "preacct") node || is_section (codes "accounting") node
 
 -- The servers with the listener of a block of the server of a name.
 abbrev pub with_listen : List ℕ → Servers → Node → Result Servers BuildFault

@@ -5,6 +5,7 @@ ghost use Rattle.rad_site.specs.SiteLaws.{site_module_lawful};
 
 use mod_auth::{Chap, Pap};
 use mod_base::{Always, MethodSet, Module, World};
+use mod_filter::AttrFilter;
 use mod_realm::RealmModule;
 use mod_users::FilesModule;
 use rad_dict::Dict;
@@ -26,6 +27,8 @@ pub enum SiteModule {
     Chap(Chap),
     /// `realm { format = suffix, delimiter = OCTET }`
     Realm(RealmModule),
+    /// `attr_filter { filename = NAME, key = TEXT }`
+    Filter(AttrFilter),
 }
 
 impl Module for SiteModule {
@@ -38,6 +41,7 @@ impl Module for SiteModule {
             SiteModule::Pap(pap) => pap.methods(),
             SiteModule::Chap(chap) => chap.methods(),
             SiteModule::Realm(realm) => realm.methods(),
+            SiteModule::Filter(filter) => filter.methods(),
         }
     }
 
@@ -55,6 +59,7 @@ impl Module for SiteModule {
             SiteModule::Pap(pap) => pap.call(alloc, method, scope, world, dict),
             SiteModule::Chap(chap) => chap.call(alloc, method, scope, world, dict),
             SiteModule::Realm(realm) => realm.call(alloc, method, scope, world, dict),
+            SiteModule::Filter(filter) => filter.call(alloc, method, scope, world, dict),
         }
     }
 

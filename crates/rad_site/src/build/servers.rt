@@ -98,10 +98,7 @@ fn and_listener(
 fn is_later(node: &Node) -> bool
     ensures { result ≡ is_later node.now }
 {
-    is_section(b"session", node)
-        || is_section(b"preacct", node)
-        || is_section(b"accounting", node)
-        || is_section(b"post-auth", node)
+    is_section(b"session", node) || is_section(b"preacct", node) || is_section(b"accounting", node)
 }
 
 /// The servers with the listener of a block of the server of a name.
