@@ -154,12 +154,16 @@ pap_stays dict (site.Always m) s is_pap = absurd is_pap
 pap_stays dict (site.Files m) s is_pap = absurd is_pap
 pap_stays dict (site.Pap m) s is_pap = record { lists = refl; authenticator = refl }
 pap_stays dict (site.Chap m) s is_pap = absurd is_pap
+pap_stays dict (site.Realm m) s is_pap = absurd is_pap
+pap_stays dict (site.Filter m) s is_pap = absurd is_pap
 
 pub chap_stays : (dict : Definitions) → Stays dict IsChap
 chap_stays dict (site.Always m) s is_chap = absurd is_chap
 chap_stays dict (site.Files m) s is_chap = absurd is_chap
 chap_stays dict (site.Pap m) s is_chap = absurd is_chap
 chap_stays dict (site.Chap m) s is_chap = record { lists = refl; authenticator = refl }
+chap_stays dict (site.Realm m) s is_chap = absurd is_chap
+chap_stays dict (site.Filter m) s is_chap = absurd is_chap
 
 pub either_stays : (dict : Definitions) → Stays dict IsPapOrChap
 either_stays dict m s (inl is_pap) = pap_stays dict m s is_pap

@@ -98,6 +98,7 @@ module_none attr (site.Always m) dict kind s free none = none
 module_none attr (site.Files m) dict kind s free none = framed_none attr (site.Files m) dict kind s free none
 module_none attr (site.Pap m) dict kind s free none = framed_none attr (site.Pap m) dict kind s free none
 module_none attr (site.Chap m) dict kind s free none = framed_none attr (site.Chap m) dict kind s free none
+module_none attr (site.Realm m) dict kind s free none = framed_none attr (site.Realm m) dict kind s free none
 module_none attr (site.Filter m) dict kind s free none = none_is_added attr (users_of m) (expanded s.scope dict (key_of m)) dict kind s.scope.lists free none
 
 call_none : (attr : AttrId) (m : Option SiteModule) (dict : Definitions) (kind : Section) (s : Situation) → call_adds attr m ≡ false → NoneOf attr s.scope.lists → NoneOf attr (module_done site_module dict kind m s).scope.lists

@@ -179,6 +179,8 @@ module _ (stack : List SiteModule) (dict : Definitions) (IsOfKind : SiteModule �
   never_sound (site.Files m) never kind overrides s = absurd never
   never_sound (site.Pap m) never kind overrides s = absurd never
   never_sound (site.Chap m) never kind overrides s = absurd never
+  never_sound (site.Realm m) never kind overrides s = absurd never
+  never_sound (site.Filter m) never kind overrides s = absurd never
 
   module_sound : (m : SiteModule) → IsOfKind m ⊎ NeverOk m → (kind : GroupKind) (overrides : List Override) (s : Situation) → IsSound Has s (called_of site_module dict Authenticate kind overrides (Some m) s)
   module_sound m (inl is) kind overrides s =

@@ -99,6 +99,8 @@ NeverOk (site.Always m) = m.code ≢ code.Ok
 NeverOk (site.Files m) = ⊥
 NeverOk (site.Pap m) = ⊥
 NeverOk (site.Chap m) = ⊥
+NeverOk (site.Realm m) = ⊥
+NeverOk (site.Filter m) = ⊥
 
 -- A leaf is a call of a module of this kind, or of one that never answers ok.
 abbrev pub CallsOnly : (SiteModule → Type 0) → List SiteModule → Leaf → Type 0

@@ -27,6 +27,7 @@ module_adds attr (site.Always m) = false
 module_adds attr (site.Files m) = edits_of (site.Files m) Reply attr
 module_adds attr (site.Pap m) = edits_of (site.Pap m) Reply attr
 module_adds attr (site.Chap m) = edits_of (site.Chap m) Reply attr
+module_adds attr (site.Realm m) = edits_of (site.Realm m) Reply attr
 module_adds attr (site.Filter m) = filter_writes (users_of m) attr
 
 -- So can a call of it.
