@@ -1,5 +1,5 @@
 -- The realms of a site are what its blocks say, each under a name of its own.
-use Rattle.std.specs.Prelude.{map, filter, codes, not}
+use Rattle.std.specs.Prelude.{map, filter, codes, not, if◌then◌else◌}
 use Rattle.std.specs.List.{list_any}
 use Rattle.std.specs.Option.{is_some, option_map}
 use Rattle.std.specs.Str.{bytes_eq}
@@ -29,14 +29,18 @@ past : {A : Type 0} (b : Bool) (e : BuildFault) (rest : Result A BuildFault) (y 
 past true e rest y is = absurd (cc)
 past false e rest y is = (refl, is)
 
-same_ok : {A : Type 0} (x y : A) → Ok {E = BuildFault} x ≡ Ok y → y ≡ x
+-- what a reading without a fault gives
+abbrev given : {A : Type 0} → A → Result A BuildFault
+given x = Ok x
+
+same_ok : {A : Type 0} (x y : A) → given x ≡ given y → y ≡ x
 same_ok x y is = cc
 
 or_false : (b : Bool) → (b || false) ≡ b
 or_false true = refl
 or_false false = refl
 
-or_joined : (a b c : Bool) → ((a || b) || c) ≡ (a || b || c)
+or_joined : (a b c : Bool) → ((a || b) || c) ≡ (a || (b || c))
 or_joined true b c = refl
 or_joined false b c = refl
 

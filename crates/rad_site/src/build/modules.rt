@@ -9,7 +9,7 @@ ghost use Rattle.unlang_xlat.specs.Faults.{parsed};
 ghost use Rattle.rad_site.specs.Nodes.{Gives, Fails, after_each};
 ghost use Rattle.rad_site.specs.RealmBlock.{realms_in};
 ghost use Rattle.rad_site.specs.Sources.{FindsIn};
-ghost use Rattle.rad_site.specs.Modules.{no_modules, is_taken};
+ghost use Rattle.rad_site.specs.Modules.{is_taken};
 ghost use Rattle.rad_site.specs.ModulesBlock.{rcode_at, always_by, is_later, plain_module, usual_key, key_or_refused, key_by, entries_module, files_with, file_then_key, key_then_file, is_files_pair, has_key_first, files_module, file_of, module_of, is_realm, realm_module, instance_of, and_room, with_instance, module_block, with_module, with_modules, modules_over, modules_in};
 
 use crate::build::codes::code_named;
@@ -428,20 +428,20 @@ fn with_modules<F: Files>(
     with_items(alloc, files, dir, dict, known, nodes_of(b"modules", node))
 }
 
-/// The modules of all blocks `modules`.
+/// The modules, with those of all blocks `modules`.
 fn configured_in<F: Files>(
     alloc: Global,
     files: &mut F,
     dir: &str,
     dict: &Dict,
-    realms: Arc<Realms>,
+    known: Modules,
     nodes: &[Node],
 ) -> Result<Modules, BuildFault>
-    ensures told { FindsIn dir.now (λ sources. after_each (with_modules sources dict.now) (no_modules (arc_value realms)) nodes.now) result
+    ensures told { FindsIn dir.now (λ sources. after_each (with_modules sources dict.now) known nodes.now) result
         (F.told files.old) (F.told files.new) }
     ensures faults { Counts (F.faults files.old) (F.faults files.new) (result ≡ Err BuildFault.ReadFault) }
 {
-    let mut known = Modules::new(alloc, realms);
+    let mut known = known;
     for node in nodes {
         known = with_modules(alloc, files, dir, dict, known, node)?;
     }
@@ -461,7 +461,8 @@ fn modules_over<F: Files>(
         (F.told files.old) (F.told files.new) }
     ensures faults { Counts (F.faults files.old) (F.faults files.new) (result ≡ Err BuildFault.ReadFault) }
 {
-    let known = configured_in(alloc, files, dir, dict, realms, nodes)?;
+    let none = Modules::new(alloc, realms);
+    let known = configured_in(alloc, files, dir, dict, none, nodes)?;
     let modules = known.with_codes()?;
     Ok(modules)
 }
