@@ -14,5 +14,6 @@ returns-in-Chap-clause-memory g c = rw c.in-Chap.is c.call-in-Chap.ensures.memor
 
 pub returns-in-Realm-clause-memory : goal.returns-in-Realm-clause-memory
 returns-in-Realm-clause-memory g c = rw c.in-Realm.is c.call-in-Realm.ensures.memory
+
 pub returns-in-Filter-clause-memory : goal.returns-in-Filter-clause-memory
 returns-in-Filter-clause-memory g c = rw c.in-Filter.is c.call-in-Filter.ensures.memory
