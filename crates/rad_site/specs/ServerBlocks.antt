@@ -1,7 +1,7 @@
--- The virtual servers of a configuration, `server NAME { listen { .. } sections }`: their names and their listeners, with the
--- names of the policies, `policy { NAME { .. } }`, among them. What stands in sections is read behind them. After the manual page
--- radiusd.conf(5).
-use Rattle.std.specs.Prelude.{ℕ, Bool, true, false, ◌&&◌, ◌||◌, List, [], ◌∷◌, ◌++◌, length, nat_lt, Some, None, Result, Ok, codes, if◌then◌else◌}
+-- The virtual servers of a configuration, `server NAME { listen { .. } sections }`: their names, which sections they have, and
+-- their listeners, with the names of the policies, `policy { NAME { .. } }`, among them. What stands in sections is read behind
+-- them. After the manual page radiusd.conf(5).
+use Rattle.std.specs.Prelude.{ℕ, Bool, true, false, ◌&&◌, ◌||◌, List, [], ◌∷◌, ◌++◌, length, nat_lt, Option, Some, None, Result, Ok, codes, if◌then◌else◌}
 use Rattle.std.specs.List.{list_any}
 use Rattle.std.specs.Option.{is_none}
 use Rattle.std.specs.Str.{bytes_eq}
@@ -19,7 +19,7 @@ use Rattle.rad_site.specs.ListenBlock.{listener_of}
 
 -- Before the first item there are no names and no listener.
 abbrev pub no_servers : Servers
-no_servers = record { names = []; policies = []; listener = None }
+no_servers = record { names = []; policies = []; sections = []; listener = None }
 
 -- A server of this name stands.
 abbrev pub has_name : List ℕ → List (List ℕ) → Bool
@@ -45,16 +45,35 @@ is_later node = is_section (codes "session") node || is_section (codes "preacct"
 abbrev pub with_listen : List ℕ → Servers → Node → Result Servers BuildFault
 with_listen name known node = listener_of node.place (nodes_of (codes "listen") node) >>= λ bound. and_listener known name node.place bound
 
--- The servers after one more item of the server of a name: one that is neither a block `listen` nor a section that isn't run
--- yet is passed over.
-unfoldable pub with_item : List ℕ → Servers → Node → Result Servers BuildFault
-with_item name known node =
-    if is_later node then refused node.place
-    else (if is_block (codes "listen") node then with_listen name known node else Ok known)
+-- The section that an item is, by its word; none of another item.
+abbrev pub section_of : Node → Option (List ℕ)
+section_of node =
+    if is_section (codes "authorize") node then Some (codes "authorize")
+    else (if is_section (codes "authenticate") node then Some (codes "authenticate")
+    else (if is_section (codes "post-auth") node then Some (codes "post-auth") else None))
 
--- The servers with one more name.
+-- The servers with one more section of the last server. A second one of a kind is refused by its word.
+unfoldable pub and_section : Servers → Place → List ℕ → Result Servers BuildFault
+and_section known place word =
+    if has_name word known.sections then bad_setting place word else Ok (record known { sections = known.sections ++ word ∷ [] })
+
+-- The servers after one more item of the server of a name that is no section: one that isn't `listen` is passed over.
+abbrev pub with_other : List ℕ → Servers → Node → Result Servers BuildFault
+with_other name known node = if is_block (codes "listen") node then with_listen name known node else Ok known
+
+-- The servers after one more item of the server of a name that is this section or none.
+abbrev pub with_part : Option (List ℕ) → List ℕ → Servers → Node → Result Servers BuildFault
+with_part (Some word) name known node = and_section known node.place word
+with_part None name known node = with_other name known node
+
+-- The servers after one more item of the server of a name: a section that isn't run yet is refused, and so is a second one of a
+-- kind; an item that is neither a section nor `listen` is passed over.
+unfoldable pub with_item : List ℕ → Servers → Node → Result Servers BuildFault
+with_item name known node = if is_later node then refused node.place else with_part (section_of node) name known node
+
+-- The servers with one more name, and without a section of it.
 abbrev pub and_name : Servers → List ℕ → Servers
-and_name known name = record known { names = known.names ++ name ∷ [] }
+and_name known name = record known { names = known.names ++ name ∷ []; sections = [] }
 
 -- There may be 64 servers. One more is refused by its name, behind what stands in its block.
 unfoldable pub few_enough : Place → List ℕ → Servers → Result Servers BuildFault
