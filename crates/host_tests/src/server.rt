@@ -1,14 +1,67 @@
 //! The server over real UDP, on one thread.
 
-use crate::until_quiet::UntilQuiet;
+ghost use Rattle.std.specs.Prelude.{None};
+
 use rad_edge::{ListClock, ListLuck, MemCrew, MemFiles, MemShelf, MemSink, OpenGate, UdpWire};
-use rad_outside::{Kit, NoMemory, Octets, Peer, Wire};
+use rad_outside::{Failed, Got, Kit, NoMemory, Octets, Peer, Wire};
 use radiusd::{Hub, radiusd};
 use std::alloc::Global;
 use std::net::{Net, UdpSocket};
 use std::sync::Wait;
 use std::test::Fail;
 use std::time::Duration;
+
+/// A wire that has ended after its first quiet while.
+#[derive(Drop)]
+struct UntilQuiet<W> {
+    wire: W,
+    is_over: bool,
+    faults: u64,
+    failures_in_a_row: u64,
+}
+
+impl<W: Wire> Wire for UntilQuiet<W> {
+    ghost told = { λ _. None };
+
+    ghost faults = { λ w. w.faults };
+
+    ghost failures_in_a_row = { λ w. w.failures_in_a_row };
+
+    ghost has_ended = { λ w. w.is_over };
+
+    fn recv(&mut self, buffer: &mut [u8; 4096]) -> Got {
+        if self.is_over {
+            self.failures_in_a_row = 0;
+            return Got::Ended;
+        }
+        match self.wire.recv(buffer) {
+            Got::Datagram(count, from) => {
+                self.failures_in_a_row = 0;
+                Got::Datagram(count, from)
+            }
+            Got::Quiet | Got::Ended => {
+                self.failures_in_a_row = 0;
+                self.is_over = true;
+                Got::Quiet
+            }
+            Got::Failed => {
+                self.failures_in_a_row = self.failures_in_a_row.saturating_add(1);
+                self.faults = self.faults.saturating_add(1);
+                Got::Failed
+            }
+        }
+    }
+
+    fn send(&mut self, to: Peer, bytes: &[u8]) -> Result<(), Failed> {
+        match self.wire.send(to, bytes) {
+            Ok(()) => Ok(()),
+            Err(Failed) => {
+                self.faults = self.faults.saturating_add(1);
+                Err(Failed)
+            }
+        }
+    }
+}
 
 type OneWire<W> = MemCrew<UntilQuiet<W>, MemShelf, ListClock, ListLuck, OpenGate>;
 
@@ -17,7 +70,12 @@ fn crew_of<W: Wire + Drop>(alloc: Global, wire: W) -> Result<OneWire<W>, NoMemor
     let mut crew = MemCrew::new(alloc, Vec::new(alloc));
     crew.add(Kit {
         listener: 0,
-        wire: UntilQuiet::new(wire),
+        wire: UntilQuiet {
+            wire,
+            is_over: false,
+            faults: 0,
+            failures_in_a_row: 0,
+        },
         control: None,
         shelf: MemShelf::new(alloc, Vec::new(alloc)),
         clock: ListClock::new(Vec::new(alloc)),
@@ -50,63 +108,6 @@ fn files_of(alloc: Global, conf: &[u8]) -> Result<MemFiles, NoMemory> {
     Ok(MemFiles::new(maps, Vec::new(alloc)))
 }
 
-/// A hub on which nothing has happened.
-fn hub_of(alloc: Global) -> Result<Hub<MemShelf>, NoMemory> {
-    let path = Octets::of(alloc, b"radutmp.log")?;
-    Hub::new(alloc, MemShelf::new(alloc, Vec::new(alloc)), path)
-}
-
-/// The server's exit status over this wire, on the site `SITE`. Each step makes one more of the devices and hands on what it
-/// has, so that none owns more than one of them where it can fail.
-fn served<R: Wait, W: Wire + Send + Drop>(rt: &R, alloc: Global, wire: W) -> Result<u8, NoMemory> {
-    let mut crew = crew_of(alloc, wire)?;
-    with_crew(rt, alloc, &mut crew)
-}
-
-fn with_crew<R: Wait, W: Wire + Send + Drop>(
-    rt: &R,
-    alloc: Global,
-    crew: &mut OneWire<W>,
-) -> Result<u8, NoMemory> {
-    let words = words_of(alloc, &["radiusd", "-s", "-d", "site"])?;
-    with_words(rt, alloc, words.as_slice(), crew)
-}
-
-fn with_words<R: Wait, W: Wire + Send + Drop>(
-    rt: &R,
-    alloc: Global,
-    words: &[String],
-    crew: &mut OneWire<W>,
-) -> Result<u8, NoMemory> {
-    let mut files = files_of(alloc, SITE)?;
-    with_files(rt, alloc, words, &mut files, crew)
-}
-
-fn with_files<R: Wait, W: Wire + Send + Drop>(
-    rt: &R,
-    alloc: Global,
-    words: &[String],
-    files: &mut MemFiles,
-    crew: &mut OneWire<W>,
-) -> Result<u8, NoMemory> {
-    let mut hub = hub_of(alloc)?;
-    Ok(status_of(rt, alloc, words, files, crew, &mut hub))
-}
-
-/// The server's exit status with these devices.
-fn status_of<R: Wait, W: Wire + Send + Drop>(
-    rt: &R,
-    alloc: Global,
-    words: &[String],
-    files: &mut MemFiles,
-    crew: &mut OneWire<W>,
-    hub: &mut Hub<MemShelf>,
-) -> u8 {
-    let mut kits = Vec::new(alloc);
-    let mut out = MemSink::new(alloc, Vec::new(alloc));
-    radiusd(rt, alloc, words, files, crew, &mut kits, hub, &mut out)
-}
-
 /// The request of RFC 2865 section 7.1.
 const REQUEST: &[u8] = &[
     0x01, 0x00, 0x00, 0x38, 0x0f, 0x40, 0x3f, 0x94, 0x73, 0x97, 0x80, 0x57, 0xbd, 0x83, 0xd5, 0xcb,
@@ -120,6 +121,45 @@ const ACCEPT: &[u8] = &[
     0x02, 0x00, 0x00, 0x14, 0x9e, 0xf2, 0xe9, 0x7b, 0x4e, 0x94, 0x75, 0x5c, 0x8f, 0x16, 0xb6, 0x39,
     0x4f, 0x6e, 0x05, 0x95,
 ];
+
+/// The server's exit status over this wire, on the site `SITE`.
+fn served<R: Wait, W: Wire + Send + Drop>(rt: &R, alloc: Global, wire: W) -> Result<u8, NoMemory> {
+    let mut crew = crew_of(alloc, wire)?;
+    served_by(rt, alloc, &mut crew)
+}
+
+fn served_by<R: Wait, W: Wire + Send + Drop>(
+    rt: &R,
+    alloc: Global,
+    crew: &mut OneWire<W>,
+) -> Result<u8, NoMemory> {
+    let words = words_of(alloc, &["radiusd", "-s", "-d", "site"])?;
+    with_files(rt, alloc, words.as_slice(), crew)
+}
+
+fn with_files<R: Wait, W: Wire + Send + Drop>(
+    rt: &R,
+    alloc: Global,
+    words: &[String],
+    crew: &mut OneWire<W>,
+) -> Result<u8, NoMemory> {
+    let mut files = files_of(alloc, SITE)?;
+    with_hub(rt, alloc, words, &mut files, crew)
+}
+
+fn with_hub<R: Wait, W: Wire + Send + Drop>(
+    rt: &R,
+    alloc: Global,
+    words: &[String],
+    files: &mut MemFiles,
+    crew: &mut OneWire<W>,
+) -> Result<u8, NoMemory> {
+    let path = Octets::of(alloc, "radutmp.log".as_bytes())?;
+    let mut hub = Hub::new(alloc, MemShelf::new(alloc, Vec::new(alloc)), path)?;
+    let mut kits = Vec::new(alloc);
+    let mut out = MemSink::new(alloc, Vec::new(alloc));
+    Ok(radiusd(rt, alloc, words, files, crew, &mut kits, &mut hub, &mut out))
+}
 
 /// A socket of a client that has sent the request to a port of this machine.
 fn asking<R: Net + Alloc<A = Global>>(rt: &R, port: u16) -> Result<UdpSocket, Fail> {
