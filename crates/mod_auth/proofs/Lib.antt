@@ -1,3 +1,4 @@
 pub mod FirstKnown
+pub mod Differences
 pub mod Digests
 pub mod LetIn

@@ -1,4 +1,5 @@
 pub mod Attributes
+pub mod Differences
 pub mod Known
 pub mod Password
 pub mod Pap

@@ -6,6 +6,7 @@ ghost use Rattle.mod_auth.specs.Chap.{challenge_of, is_idle, authorized, compare
 ghost use Rattle.mod_auth.specs.Lawful.{chap_is_lawful};
 
 use crate::attributes::{AUTH_TYPE, CHAP_CHALLENGE, CHAP_PASSWORD, CLEARTEXT_PASSWORD};
+use crate::compare::is_same;
 use crate::password::verdict;
 use md5::{Digest, Md5};
 use mod_base::{MethodSet, Module, World};
@@ -79,7 +80,7 @@ fn compared(given: &[u8], password: &[u8], challenge: &[u8]) -> Code
     hasher.update(identifier);
     hasher.update(password);
     hasher.update(challenge);
-    verdict(digest == hasher.finalize().as_slice())
+    verdict(is_same(digest, hasher.finalize().as_slice()))
 }
 
 /// What it answers to a CHAP-Password and the password that is known.

@@ -6,6 +6,7 @@
 
 mod attributes;
 mod chap;
+mod compare;
 mod laws;
 mod pap;
 mod password;

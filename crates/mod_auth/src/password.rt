@@ -7,6 +7,7 @@ ghost use Rattle.hex.specs.declared.error.FromHexError.TheVariants.{OutOfMemory}
 ghost use Rattle.sha1.specs.Sha1.{sha1};
 ghost use Rattle.mod_auth.specs.Password.{verdict, plain_octets, digested, salted, by_scheme, compared};
 
+use crate::compare::is_same;
 use crate::scheme::{Scheme, scheme_of};
 use hex::FromHexError;
 use md5::{Digest, Md5};
@@ -66,9 +67,9 @@ fn digested(digest: &[u8], known: Option<Octets>) -> Code
     ensures { result ≡ digested digest.now known }
 {
     match known {
-        Some(known) if known.as_slice().len() == digest.len() => verdict(
-            known.as_slice() == digest,
-        ),
+        Some(known) if known.as_slice().len() == digest.len() => {
+            verdict(is_same(known.as_slice(), digest))
+        }
         _ => Code::Invalid,
     }
 }
@@ -80,7 +81,7 @@ fn salted(password: &[u8], known: Option<Octets>) -> Code
     match known {
         Some(known) if known.as_slice().len() > SHA_LENGTH => {
             let (digest, salt) = known.as_slice().split_at(SHA_LENGTH);
-            verdict(digest == sha_of(password, salt).as_slice())
+            verdict(is_same(digest, sha_of(password, salt).as_slice()))
         }
         _ => Code::Invalid,
     }
@@ -101,7 +102,7 @@ fn by_scheme(alloc: Global, scheme: Scheme, password: &[u8], known: &[u8]) -> Re
     ensures { IfOk result (λ code. code ≡ by_scheme scheme password.now known.now) }
 {
     Ok(match scheme {
-        Scheme::Cleartext => verdict(known == password),
+        Scheme::Cleartext => verdict(is_same(known, password)),
         Scheme::Md5 => digested(&Md5::digest(password), plain_octets(alloc, known)?),
         Scheme::Sha => digested(&Sha1::digest(password), plain_octets(alloc, known)?),
         Scheme::SaltedSha => salted(password, plain_octets(alloc, known)?),

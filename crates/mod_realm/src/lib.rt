@@ -5,6 +5,7 @@
 
 mod attributes;
 mod fault;
+mod held;
 mod laws;
 mod parting;
 mod realm_module;
@@ -14,4 +15,4 @@ pub use fault::RealmFault;
 pub use laws::{names_are_parted_at_the_delimiter, users_of_a_realm_are_named};
 pub use parting::RealmFormat;
 pub use realm_module::RealmModule;
-pub use realms::Realms;
+pub use realms::{Realm, Realms};

@@ -1,10 +1,12 @@
 ghost use Rattle.std.specs.Prelude.{◌≡◌, true, false, Some, IfOk};
+ghost use Rattle.std.specs.Arc.{arc_value};
 ghost use Rattle.std.specs.Option.{option_copied};
 ghost use Rattle.mod_lists.specs.Done.{done_to_lists};
 ghost use Rattle.mod_realm.specs.Named.{found, found_in, has_realm, named, stripped, realm_done, realm_methods, realm_edits};
 ghost use Rattle.mod_realm.specs.Lawful.{realm_is_lawful};
 
 use crate::attributes::{REALM, STRIPPED_USER_NAME, USER_NAME};
+use crate::held::Held;
 use crate::parting::{RealmFormat, parted};
 use crate::realms::Realms;
 use mod_base::{MethodSet, Module, World};
@@ -14,11 +16,12 @@ use rad_outside::{NoMemory, Octets};
 use rad_value::{ListName, Lists, Scope};
 use rad_words::{Code, Section};
 use std::alloc::Global;
+use std::sync::Arc;
 
 /// The kind `realm`: a user's name is parted, and its realm is found among those of the site, after FreeRADIUS' rlm_realm(5).
 #[derive(Drop)]
 pub struct RealmModule {
-    realms: Realms,
+    realms: Held,
     format: RealmFormat,
     delimiter: u8,
 }
@@ -39,7 +42,20 @@ impl RealmModule {
         ensures delimiter { result.delimiter ≡ delimiter }
     {
         RealmModule {
-            realms,
+            realms: Held::own(realms),
+            format,
+            delimiter,
+        }
+    }
+
+    /// An instance over realms that others hold, too, as the instances of a site do.
+    pub fn sharing(realms: Arc<Realms>, format: RealmFormat, delimiter: u8) -> RealmModule
+        ensures realms { result.realms ≡ arc_value realms }
+        ensures format { result.format ≡ format }
+        ensures delimiter { result.delimiter ≡ delimiter }
+    {
+        RealmModule {
+            realms: Held::shared(realms),
             format,
             delimiter,
         }
@@ -50,7 +66,7 @@ impl RealmModule {
         ensures { IfOk result (λ one. one ≡ found_in self.now.realms self.now.format self.now.delimiter name.now) }
     {
         let parts = parted(self.format, self.delimiter, name);
-        match self.realms.find_or_default(alloc, parts.realm)? {
+        match self.realms.realms().find_or_default(alloc, parts.realm)? {
             Some(realm) => Ok(Some(Found {
                 realm: Octets::of(alloc, realm.name.as_slice())?,
                 nostrip: realm.nostrip,

@@ -17,7 +17,7 @@ const DEFAULT: &[u8] = b"DEFAULT";
 
 /// A realm, under the name as it is configured.
 #[derive(Debug, Drop)]
-pub(crate) struct Realm {
+pub struct Realm {
     pub name: Octets,
     /// Whether the user's name stays whole.
     pub nostrip: bool,
@@ -81,6 +81,13 @@ impl Realms {
     {
         let key = lowered(alloc, name)?;
         Ok(self.realms.get(key.as_slice()))
+    }
+
+    /// Whether there is a realm of a name, case aside.
+    pub fn has(&self, alloc: Global, name: &[u8]) -> Result<bool, NoMemory>
+        ensures { IfOk result (λ there. there ≡ is_some (realm_of self.now name.now)) }
+    {
+        Ok(self.find(alloc, name)?.is_some())
     }
 
     /// The realm of a name, case aside, or else that of the name DEFAULT.

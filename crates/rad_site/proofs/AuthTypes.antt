@@ -182,6 +182,8 @@ module_never (site.Always m) dict kind s other all = all
 module_never (site.Files m) dict kind s other all = framed_never (site.Files m) dict kind s other all
 module_never (site.Pap m) dict kind s other all = pap_never m.name kind s.scope.lists other all
 module_never (site.Chap m) dict kind s other all = chap_never m.name kind s.scope.authenticator s.scope.lists other all
+module_never (site.Realm m) dict kind s other all = framed_never (site.Realm m) dict kind s refl all
+module_never (site.Filter m) dict kind s other all = framed_never (site.Filter m) dict kind s refl all
 
 call_never : (m : Option SiteModule) (dict : Definitions) (kind : Section) (s : Situation) → call_accepts m ≡ false → Never s.scope.lists → Never (module_done site_module dict kind m s).scope.lists
 call_never None dict kind s other all = all

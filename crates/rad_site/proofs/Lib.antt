@@ -6,11 +6,16 @@ pub mod Served
 pub mod Scopes
 pub mod Trees
 pub mod Requests
-pub mod Kept
 pub mod Finding
 pub mod UsersFiles
 pub mod Sites
 pub mod Dictionaries
 pub mod Building
+pub mod RealmsSaid
 pub mod AuthTypes
+pub mod ByLeaves
+pub mod Vouching
 pub mod PasswordsChecked
+pub mod PostAuth
+pub mod Accepted
+pub mod Rejected

@@ -15,26 +15,24 @@ use Rattle.mod_base.specs.Situation.{Situation}
 use Rattle.mod_auth.specs.LetsIn.{KnowsThePassword, HasTheDigest}
 use Rattle.mod_auth.proofs.LetIn.{pap_lets_in, chap_lets_in}
 use Rattle.unlang_tree.specs.declared.statement.Statement.{Statement}
-use Rattle.unlang_tree.specs.declared.statement.StatementKind.{StatementKind}
-use Rattle.unlang_tree.specs.declared.statement.StatementKind.TheVariants as kinds
 use Rattle.unlang_tree.specs.declared.policies.SectionTree.{SectionTree}
 use Rattle.unlang_tree.specs.declared.policies.ServerTree.{ServerTree}
 use Rattle.unlang_code.specs.declared.section_id.SectionId.{SectionId}
-use Rattle.unlang_code.specs.Judgement.{default_code}
 use Rattle.unlang_code.specs.Leaves.{EachLeaf, LeafKeeps, leaves_of}
-use Rattle.unlang_code.specs.Run.{Outcome, in_scope, begun, called_of, called_with, kind_done, is_over, and_then, block_of, judged_in, section_done}
+use Rattle.unlang_code.specs.Run.{section_done}
 use Rattle.unlang_code.specs.Sections.{server_of, subsection_of, section_in, found, statements_of}
 use Rattle.unlang_code.proofs.Keeping.{section_keeps}
 use Rattle.rad_site.specs.declared.site_module.SiteModule.{SiteModule}
 use Rattle.rad_site.specs.declared.site_module.SiteModule.TheVariants as site
 use Rattle.rad_site.specs.declared.verdict.Verdict.{Verdict}
 use Rattle.rad_site.specs.declared.verdict.Verdict.TheVariants as verdict
-use Rattle.rad_site.specs.Access.{after_authorize, after_authenticate, section_named, route_of, done_in, authorized_by, authorized, decided_there, decided_behind, decided}
+use Rattle.rad_site.specs.Access.{after_authorize, after_authenticate, section_named, route_of, done_in, authorized_by, authorized, decided_there, decided_behind, let_in}
 use Rattle.rad_site.specs.Attributes.{auth_type}
-use Rattle.rad_site.specs.Passwords.{is_accept, NeverAccept, IsPap, IsChap, IsPapOrChap, IsAlone, LetsInBy}
+use Rattle.rad_site.specs.Passwords.{is_accept, NeverAccept, IsPap, IsChap, IsPapOrChap, LetsInBy}
 use Rattle.rad_site.specs.Policies.{Policies}
 use Rattle.rad_site.specs.SiteModules.{site_module}
 use Rattle.rad_site.proofs.AuthTypes.{Never, leaves_never, first_is_other}
+use Rattle.rad_site.proofs.Vouching.{Alike, HasIn, Stays, Shows, section_has}
 
 -- By its code authorize never accepts.
 never_at_once : (answer : Code) → after_authorize answer ≡ Some verdict.Accept → ⊥
@@ -48,44 +46,9 @@ never_at_once code.Notfound is = cc
 never_at_once code.Noop is = cc
 never_at_once code.Updated is = cc
 
--- the code of a section of one piece
-abbrev of_piece : Outcome → Code
-of_piece piece = (judged_in Authenticate (and_then (is_over piece) piece (block_of []))).1
-
--- By a call with no actions of its own it accepts by ok alone.
-only_ok : (s : Situation) (answer : Code) → after_authenticate (of_piece (called_with Authenticate [] (s, answer))) ≡ verdict.Accept → answer ≡ code.Ok
-only_ok s code.Reject is = absurd (cc)
-only_ok s code.Fail is = absurd (cc)
-only_ok s code.Ok is = refl
-only_ok s code.Handled is = absurd (cc)
-only_ok s code.Invalid is = absurd (cc)
-only_ok s code.Userlock is = absurd (cc)
-only_ok s code.Notfound is = absurd (cc)
-only_ok s code.Noop is = absurd (cc)
-only_ok s code.Updated is = absurd (cc)
-
--- Where a module of this kind answers ok in authenticate, this is so of the Request Authenticator and the lists.
-abbrev Shows : Definitions → (SiteModule → Type 0) → (List ℕ → PairLists → Type 0) → Type 0
-Shows dict IsOfKind Has = (m : SiteModule) (s : Situation) → IsOfKind m → (site_module.does m dict Authenticate s).1 ≡ code.Ok → Has s.scope.authenticator s.scope.lists
-
-module _ (policies : Policies) (dict : Definitions) (IsOfKind : SiteModule → Type 0) (Has : List ℕ → PairLists → Type 0) (shows : Shows dict IsOfKind Has) where
-  -- It is so of a situation.
-  abbrev HasIn : Situation → Type 0
-  HasIn s = Has s.scope.authenticator s.scope.lists
-
-  -- a section of such a module alone
-  by_one : (statements : List Statement) (s : Situation) → IsAlone IsOfKind policies.stack statements → after_authenticate (section_done site_module policies.stack dict Authenticate statements s).1 ≡ verdict.Accept
-      → HasIn s
-  by_one statements s alone is =
-      let started = in_scope (begun s.scope) s in
-      let one = alone.statement in
-      let done = site_module.does alone.called dict Authenticate started in
-      let piece : kind_done site_module policies.stack dict Authenticate one.kind started ≡ called_with Authenticate [] done =
-      ap (λ (k : StatementKind). kind_done site_module policies.stack dict Authenticate k started) alone.calls
-      ∙ ap (λ (m : Option SiteModule). called_of site_module dict Authenticate [] m started) alone.is_there in
-      let accepted = subst (λ (all : List Statement). after_authenticate (section_done site_module policies.stack dict Authenticate all s).1 ≡ verdict.Accept) alone.alone is in
-      shows alone.called started alone.is_of_kind
-      (only_ok done.0 done.1 (subst (λ (p : Outcome). after_authenticate (of_piece p) ≡ verdict.Accept) piece accepted))
+module _ (policies : Policies) (dict : Definitions) (IsOfKind : SiteModule → Type 0) (Has : List ℕ → PairLists → Type 0) (stays : Stays dict IsOfKind) (shows : Shows dict IsOfKind Has) where
+  abbrev HasHere : Situation → Type 0
+  HasHere s = HasIn Has s
 
   found_kind : (section : Option SectionTree) (server : ℕ) (kind : Section) (name : List ℕ) (id : SectionId)
       → option_and_then (λ (tree : SectionTree). option_map (λ number. let one : SectionId = record { server = server; section = kind; sub = Some number } in one) (subsection_of tree.subsections name)) section ≡ Some id → id.section ≡ kind
@@ -102,12 +65,12 @@ module _ (policies : Policies) (dict : Definitions) (IsOfKind : SiteModule → T
 
   module _ (server : List ℕ) (checks : LetsInBy IsOfKind policies server) where
     by_statements : (name : List ℕ) (id : SectionId) (statements : Option (List Statement)) (s : Situation) → section_named policies.table server Authenticate (Some name) ≡ Some id → statements_of policies.table id ≡ statements
-        → after_authenticate (section_done site_module policies.stack dict Authenticate (unwrap_or statements []) s).1 ≡ verdict.Accept → HasIn s
+        → after_authenticate (section_done site_module policies.stack dict Authenticate (unwrap_or statements []) s).1 ≡ verdict.Accept → HasHere s
     by_statements name id None s named at is = absurd (cc)
-    by_statements name id (Some statements) s named at is = by_one statements s (checks.alone name id statements named at) is
+    by_statements name id (Some statements) s named at is = section_has policies.stack dict IsOfKind Has stays shows statements s (checks.only name id statements named at) is
 
     by_section : (name : List ℕ) (id : SectionId) (s : Situation) → section_named policies.table server Authenticate (Some name) ≡ Some id → after_authenticate (done_in policies dict id s).1 ≡ verdict.Accept
-        → HasIn s
+        → HasHere s
     unfolding section_named
     by_section name id s named is =
         by_statements name id (statements_of policies.table id) s named refl
@@ -115,23 +78,23 @@ module _ (policies : Policies) (dict : Definitions) (IsOfKind : SiteModule → T
         (named_kind (server_of policies.table server) Authenticate name id named) is)
 
     by_id : (name : List ℕ) (id : Option SectionId) (s : Situation) → section_named policies.table server Authenticate (Some name) ≡ id → (decided_there policies dict (ok_or id verdict.Reject) s).1 ≡ verdict.Accept
-        → HasIn s
+        → HasHere s
     by_id name None s named is = absurd (cc)
     by_id name (Some id) s named is = by_section name id s named is
 
     by_tests : (name : List ℕ) (accepts rejects : Bool) (s : Situation) → accepts ≡ false
         → (decided_there policies dict (cond accepts (Err verdict.Accept) (cond rejects (Err verdict.Reject) (ok_or (section_named policies.table server Authenticate (Some name)) verdict.Reject))) s).1 ≡ verdict.Accept
-        → HasIn s
+        → HasHere s
     by_tests name true rejects s other is = absurd (cc)
     by_tests name false true s other is = absurd (cc)
     by_tests name false false s other is = by_id name (section_named policies.table server Authenticate (Some name)) s refl is
 
     by_name : (named : Option (List ℕ)) (s : Situation) → ((name : List ℕ) → named ≡ Some name → is_accept name ≡ false)
-        → (decided_there policies dict (route_of policies.table server named) s).1 ≡ verdict.Accept → HasIn s
+        → (decided_there policies dict (route_of policies.table server named) s).1 ≡ verdict.Accept → HasHere s
     by_name None s other is = absurd (cc)
     by_name (Some name) s other is = by_tests name (str_eq_ignore_ascii_case name (codes "Accept")) (str_eq_ignore_ascii_case name (codes "Reject")) s (other name refl) is
 
-    behind : (so_far : Option Verdict) (s : Situation) → (so_far ≡ Some verdict.Accept → ⊥) → Never s.scope.lists → (decided_behind policies dict server so_far s).1 ≡ verdict.Accept → HasIn s
+    behind : (so_far : Option Verdict) (s : Situation) → (so_far ≡ Some verdict.Accept → ⊥) → Never s.scope.lists → (decided_behind policies dict server so_far s).1 ≡ verdict.Accept → HasHere s
     behind (Some answer) s never all is = absurd (never (ap (λ (v : Verdict). Some v) is))
     behind None s never all is = by_name (first_text auth_type s.scope.lists.control) s (λ name named. first_is_other s.scope.lists name all named) is
 
@@ -149,9 +112,9 @@ module _ (policies : Policies) (dict : Definitions) (IsOfKind : SiteModule → T
       never_at_once (done_in policies dict id s).1,
     )
 
-    -- An accepted request has it, behind authorize.
-    pub accepted_has : (s : Situation) → s.scope.lists.control ≡ [] → (decided policies dict server s).1 ≡ verdict.Accept → HasIn (authorized policies dict server s).0
-    unfolding decided
+    -- A request that was let in has it, behind authorize.
+    pub accepted_has : (s : Situation) → s.scope.lists.control ≡ [] → (let_in policies dict server s).1 ≡ verdict.Accept → HasHere (authorized policies dict server s).0
+    unfolding let_in
     accepted_has s empty is =
         let done = authorized policies dict server s in
         let begins : Never s.scope.lists = rw empty tt in
@@ -170,13 +133,38 @@ pap_shows dict (site.Always m) s is_pap is = absurd is_pap
 pap_shows dict (site.Files m) s is_pap is = absurd is_pap
 pap_shows dict (site.Pap m) s is_pap is = (pap_lets_in s.scope.lists).0 is
 pap_shows dict (site.Chap m) s is_pap is = absurd is_pap
+pap_shows dict (site.Realm m) s is_pap is = absurd is_pap
+pap_shows dict (site.Filter m) s is_pap is = absurd is_pap
 
 pub chap_shows : (dict : Definitions) → Shows dict IsChap HasTheDigest
 chap_shows dict (site.Always m) s is_chap is = absurd is_chap
 chap_shows dict (site.Files m) s is_chap is = absurd is_chap
 chap_shows dict (site.Pap m) s is_chap is = absurd is_chap
 chap_shows dict (site.Chap m) s is_chap is = (chap_lets_in s.scope.authenticator s.scope.lists).0 is
+chap_shows dict (site.Realm m) s is_chap is = absurd is_chap
+chap_shows dict (site.Filter m) s is_chap is = absurd is_chap
 
 pub either_shows : (dict : Definitions) → Shows dict IsPapOrChap KnowsOrHas
 either_shows dict m s (inl is_pap) is = inl (pap_shows dict m s is_pap is)
 either_shows dict m s (inr is_chap) is = inr (chap_shows dict m s is_chap is)
+
+-- In authenticate neither changes anything.
+pub pap_stays : (dict : Definitions) → Stays dict IsPap
+pap_stays dict (site.Always m) s is_pap = absurd is_pap
+pap_stays dict (site.Files m) s is_pap = absurd is_pap
+pap_stays dict (site.Pap m) s is_pap = record { lists = refl; authenticator = refl }
+pap_stays dict (site.Chap m) s is_pap = absurd is_pap
+pap_stays dict (site.Realm m) s is_pap = absurd is_pap
+pap_stays dict (site.Filter m) s is_pap = absurd is_pap
+
+pub chap_stays : (dict : Definitions) → Stays dict IsChap
+chap_stays dict (site.Always m) s is_chap = absurd is_chap
+chap_stays dict (site.Files m) s is_chap = absurd is_chap
+chap_stays dict (site.Pap m) s is_chap = absurd is_chap
+chap_stays dict (site.Chap m) s is_chap = record { lists = refl; authenticator = refl }
+chap_stays dict (site.Realm m) s is_chap = absurd is_chap
+chap_stays dict (site.Filter m) s is_chap = absurd is_chap
+
+pub either_stays : (dict : Definitions) → Stays dict IsPapOrChap
+either_stays dict m s (inl is_pap) = pap_stays dict m s is_pap
+either_stays dict m s (inr is_chap) = chap_stays dict m s is_chap

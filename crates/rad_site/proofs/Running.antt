@@ -22,7 +22,7 @@ use Rattle.rad_site.specs.Attributes.{auth_type}
 use Rattle.rad_site.specs.Policies.{Policies}
 use Rattle.rad_site.specs.SiteModules.{site_module}
 use Rattle.rad_site.specs.SiteLaws.{site_module_lawful}
-use Rattle.rad_site.specs.Access.{section_named, HasStatements, route_of, verdict_by, settled, done_in, after_authorize, after_authenticate, authorized_by, authorized, decided_there, authenticated, decided_behind, decided, IsReady}
+use Rattle.rad_site.specs.Access.{section_named, HasStatements, route_of, verdict_by, settled, done_in, after_authorize, after_authenticate, authorized_by, authorized, decided_there, authenticated, decided_behind, let_in, IsReady}
 use Rattle.rad_site.proofs.Moments.{section_keeps_moment}
 
 -- what was found has statements
@@ -80,19 +80,19 @@ module _ (policies : Policies) (dict : Definitions) where
       (reaches_then s0 s1 w0 w1 (done_in policies dict id) (λ s. (s, answer)) more reached)
 
   behind_authorize : (server : List ℕ) (s0 s1 : Scope) (w0 w1 : WorldState) (decided_so_far : Option Verdict) → Reaches s0 w0 (authorized policies dict server) s1 w1 (λ s. (s, decided_so_far))
-      → Reaches s0 w0 (decided policies dict server) s1 w1 (decided_behind policies dict server decided_so_far)
-  unfolding decided
+      → Reaches s0 w0 (let_in policies dict server) s1 w1 (decided_behind policies dict server decided_so_far)
+  unfolding let_in
   behind_authorize server s0 s1 w0 w1 decided_so_far reached =
       reaches_then s0 s1 w0 w1 (authorized policies dict server) (λ s. (s, decided_so_far)) (λ d. decided_behind policies dict server d.1 d.0) reached
 
-  pub decided_at_once : (server : List ℕ) (verdict : Verdict) (s0 s1 : Scope) (w0 w1 : WorldState) → Reaches s0 w0 (authorized policies dict server) s1 w1 (λ s. (s, Some verdict))
-      → Reaches s0 w0 (decided policies dict server) s1 w1 (λ s. (s, verdict))
-  decided_at_once server verdict s0 s1 w0 w1 reached = behind_authorize server s0 s1 w0 w1 (Some verdict) reached
+  pub let_in_at_once : (server : List ℕ) (verdict : Verdict) (s0 s1 : Scope) (w0 w1 : WorldState) → Reaches s0 w0 (authorized policies dict server) s1 w1 (λ s. (s, Some verdict))
+      → Reaches s0 w0 (let_in policies dict server) s1 w1 (λ s. (s, verdict))
+  let_in_at_once server verdict s0 s1 w0 w1 reached = behind_authorize server s0 s1 w0 w1 (Some verdict) reached
 
-  pub decided_later : (server : List ℕ) (verdict : Verdict) (s0 s1 s2 : Scope) (w0 w1 w2 : WorldState) → Reaches s0 w0 (authorized policies dict server) s1 w1 (λ s. (s, None))
-      → Reaches s1 w1 (authenticated policies dict server) s2 w2 (λ s. (s, verdict)) → Reaches s0 w0 (decided policies dict server) s2 w2 (λ s. (s, verdict))
-  decided_later server verdict s0 s1 s2 w0 w1 w2 first second =
-      reaches_joined s0 s1 s2 w0 w1 w2 (decided policies dict server) (authenticated policies dict server) (λ s. (s, verdict))
+  pub let_in_later : (server : List ℕ) (verdict : Verdict) (s0 s1 s2 : Scope) (w0 w1 w2 : WorldState) → Reaches s0 w0 (authorized policies dict server) s1 w1 (λ s. (s, None))
+      → Reaches s1 w1 (authenticated policies dict server) s2 w2 (λ s. (s, verdict)) → Reaches s0 w0 (let_in policies dict server) s2 w2 (λ s. (s, verdict))
+  let_in_later server verdict s0 s1 s2 w0 w1 w2 first second =
+      reaches_joined s0 s1 s2 w0 w1 w2 (let_in policies dict server) (authenticated policies dict server) (λ s. (s, verdict))
       (behind_authorize server s0 s1 w0 w1 None first) second
 
 pub if_ok : {T E : Type 0} {P Q : T → Type 0} (result : Result T E) → ((value : T) → P value → Q value) → IfOk result P → IfOk result Q
@@ -105,17 +105,17 @@ ready_behind_ok policies dict id s0 s1 w0 w1 (Ok answer) reached ready = ready_b
 ready_behind_ok policies dict id s0 s1 w0 w1 (Err fault) reached ready = tt
 
 -- authorize decided already, or authenticate decides
-pub decided_now : (policies : Policies) (dict : Definitions) (server : List ℕ) (s0 s1 : Scope) (w0 w1 : WorldState) (so_far : Option Verdict) (verdict : Verdict) → false ≡ is_none so_far → verdict ≡ settled so_far
-    → Reaches s0 w0 (authorized policies dict server) s1 w1 (λ s. (s, so_far)) → Reaches s0 w0 (decided policies dict server) s1 w1 (λ s. (s, verdict))
-decided_now policies dict server s0 s1 w0 w1 None verdict is same reached = absurd (cc)
-decided_now policies dict server s0 s1 w0 w1 (Some answer) verdict is same reached =
-    subst (λ (v : Verdict). Reaches s0 w0 (decided policies dict server) s1 w1 (λ s. (s, v))) (sym same) (decided_at_once policies dict server answer s0 s1 w0 w1 reached)
+pub let_in_now : (policies : Policies) (dict : Definitions) (server : List ℕ) (s0 s1 : Scope) (w0 w1 : WorldState) (so_far : Option Verdict) (verdict : Verdict) → false ≡ is_none so_far → verdict ≡ settled so_far
+    → Reaches s0 w0 (authorized policies dict server) s1 w1 (λ s. (s, so_far)) → Reaches s0 w0 (let_in policies dict server) s1 w1 (λ s. (s, verdict))
+let_in_now policies dict server s0 s1 w0 w1 None verdict is same reached = absurd (cc)
+let_in_now policies dict server s0 s1 w0 w1 (Some answer) verdict is same reached =
+    subst (λ (v : Verdict). Reaches s0 w0 (let_in policies dict server) s1 w1 (λ s. (s, v))) (sym same) (let_in_at_once policies dict server answer s0 s1 w0 w1 reached)
 
-pub decided_then : {E : Type 0} (policies : Policies) (dict : Definitions) (server : List ℕ) (s0 s1 s2 : Scope) (w0 w1 w2 : WorldState) (so_far : Option Verdict) (result : Result Verdict E) → true ≡ is_none so_far
+pub let_in_then : {E : Type 0} (policies : Policies) (dict : Definitions) (server : List ℕ) (s0 s1 s2 : Scope) (w0 w1 w2 : WorldState) (so_far : Option Verdict) (result : Result Verdict E) → true ≡ is_none so_far
     → Reaches s0 w0 (authorized policies dict server) s1 w1 (λ s. (s, so_far))
-    → IfOk result (λ verdict. Reaches s1 w1 (authenticated policies dict server) s2 w2 (λ s. (s, verdict))) → IfOk result (λ verdict. Reaches s0 w0 (decided policies dict server) s2 w2 (λ s. (s, verdict)))
-decided_then policies dict server s0 s1 s2 w0 w1 w2 None result is first second = if_ok result (λ verdict later. decided_later policies dict server verdict s0 s1 s2 w0 w1 w2 first later) second
-decided_then policies dict server s0 s1 s2 w0 w1 w2 (Some answer) result is first second = absurd (cc)
+    → IfOk result (λ verdict. Reaches s1 w1 (authenticated policies dict server) s2 w2 (λ s. (s, verdict))) → IfOk result (λ verdict. Reaches s0 w0 (let_in policies dict server) s2 w2 (λ s. (s, verdict)))
+let_in_then policies dict server s0 s1 s2 w0 w1 w2 None result is first second = if_ok result (λ verdict later. let_in_later policies dict server verdict s0 s1 s2 w0 w1 w2 first later) second
+let_in_then policies dict server s0 s1 s2 w0 w1 w2 (Some answer) result is first second = absurd (cc)
 
 -- an Auth-Type that leads to a verdict
 pub by_verdict_of : {x : Verdict} (policies : Policies) (dict : Definitions) (server : List ℕ) (route : Result SectionId Verdict) (verdict : Verdict) (s0 : Scope) (w0 : WorldState)

@@ -9,8 +9,6 @@ use Rattle.rad_words.specs.declared.sections.Section.TheVariants as section
 use Rattle.mod_base.specs.Methods.{place_of, has_method}
 use Rattle.unlang_tree.specs.declared.statement.Call.{Call}
 use Rattle.unlang_tree.specs.declared.statement.Statement.{Statement}
-use Rattle.unlang_tree.specs.declared.statement.StatementKind.{StatementKind}
-use Rattle.unlang_tree.specs.declared.statement.StatementKind.TheVariants as kinds
 use Rattle.unlang_tree.specs.declared.policies.Subsection.{Subsection}
 use Rattle.unlang_tree.specs.declared.policies.SectionTree.{SectionTree}
 use Rattle.unlang_tree.specs.declared.policies.ServerTree.{ServerTree}
@@ -20,11 +18,11 @@ use Rattle.unlang_tree.specs.declared.fault.TreeFault.{TreeFault}
 use Rattle.unlang_tree.specs.Instances.{Instance}
 use Rattle.unlang_tree.specs.Policies.{policies_of}
 use Rattle.unlang_tree.specs.Sites.{Site}
-use Rattle.unlang_tree.proofs.CallsMet.{servers_met}
-use Rattle.unlang_tree.specs.EachCall.{calls_in_kind, calls_of, EachCall, EachCallIn, EachCallOfSections, EachCallOf, IsMet}
+use Rattle.unlang_tree.proofs.CallsMet.{each_wider, servers_met}
+use Rattle.unlang_tree.specs.EachCall.{EachCall, EachCallIn, EachCallOfSections, EachCallOf, IsMet}
 use Rattle.unlang_code.specs.declared.section_id.SectionId.{SectionId}
 use Rattle.unlang_code.specs.Sections.{is_of_kind, section_in, statements_in, statements_of}
-use Rattle.unlang_code.specs.Serving.{IsServed, IsKindServed, AreServed, Serves}
+use Rattle.unlang_code.specs.Serving.{IsServed, Serves}
 use Rattle.rad_site.specs.declared.site_module.SiteModule.{SiteModule}
 use Rattle.rad_site.specs.SiteModules.{methods_of, site_module}
 use Rattle.rad_site.specs.Modules.{AreInStep}
@@ -66,7 +64,7 @@ found_here : {X : Type 0} (P : X → Type 0) (p : X → Bool) (first : X) (xs : 
 found_here P p first xs x of_first more true here same = let is_first = same_Some first x same in (subst P is_first of_first, subst (λ y. p y ≡ true) is_first here)
 found_here P p first xs x of_first more false here later = more later
 
-found_one : {X : Type 0} (P : X → Type 0) (p : X → Bool) (xs : List X) (x : X) → AllByRecursion P xs → find p xs ≡ Some x → P x × (p x ≡ true)
+pub found_one : {X : Type 0} (P : X → Type 0) (p : X → Bool) (xs : List X) (x : X) → AllByRecursion P xs → find p xs ≡ Some x → P x × (p x ≡ true)
 found_one P p [] x all is = absurd (cc)
 found_one P p (first ∷ xs) x all is = found_here P p first xs x all.0 (found_one P p xs x all.1) (p first) refl is
 
@@ -110,24 +108,11 @@ module _ (instances : List Instance) (stack : List SiteModule) (in_step : AreInS
   pub met_is_served : IsMet instances kind call → IsServed site_module stack kind call
   met_is_served met = by_instance (slice_get instances call.instance) refl met
 
-module _ (instances : List Instance) (stack : List SiteModule) (in_step : AreInStep instances stack) (kind : Section) where
-  kind_served : (statement : StatementKind) → AllByRecursion (IsMet instances kind) (calls_in_kind statement) → IsKindServed site_module stack kind statement
-  kind_served (kinds.Call call) met = met_is_served instances stack in_step kind call met.0
-  kind_served (kinds.Update edit) met = tt
-
-  split : (statement : StatementKind) (more : List Call) → AllByRecursion (IsMet instances kind) (calls_in_kind statement ++ more) → AllByRecursion (IsMet instances kind) (calls_in_kind statement) × AllByRecursion (IsMet instances kind) more
-  split (kinds.Call call) more met = ((met.0, tt), met.1)
-  split (kinds.Update edit) more met = (tt, met)
-
-  are_served : (statements : List Statement) → EachCall (IsMet instances) kind statements → AreServed site_module stack kind statements
-  are_served [] met = tt
-  are_served (statement ∷ statements) met =
-      let parts = split statement.kind (calls_of statements) met in
-      (kind_served statement.kind parts.0, are_served statements parts.1)
-
 -- policies that were read are served
 pub served : (instances : List Instance) (stack : List SiteModule) (servers : List ServerTree) → AreInStep instances stack → EachCallOf (IsMet instances) servers → Serves site_module stack servers
-served instances stack servers in_step met = λ id statements is. are_served instances stack in_step id.section statements (in_section (IsMet instances) servers id statements met is)
+served instances stack servers in_step met = λ id statements is.
+    each_wider (IsMet instances) (IsServed site_module stack) (met_is_served instances stack in_step) id.section statements
+    (in_section (IsMet instances) servers id statements met is)
 
 was_read : (read : Result (List ServerTree) TreeFault) (servers : List ServerTree) → of_tree read ≡ Ok servers → read ≡ Ok servers
 was_read (Ok found) servers is = let same : found ≡ servers = cc in ap (λ s. Ok s) same

@@ -1,5 +1,5 @@
--- What becomes of an access request, from section to section. This project's own, after FreeRADIUS.
-use Rattle.std.specs.Prelude.{ℕ, ◌≡◌, true, Bool, List, [], ◌∷◌, Option, Some, None, Result, Ok, Err, IsSome, ok_or, codes, filter, if◌then◌else◌}
+-- Whether an access request is let in: authorize and authenticate. This project's own, after FreeRADIUS.
+use Rattle.std.specs.Prelude.{ℕ, ◌≡◌, true, Bool, List, [], ◌∷◌, Option, Some, None, Result, Ok, Err, IsSome, ok_or, codes, if◌then◌else◌}
 use Rattle.std.specs.Option.{option_and_then, is_some}
 use Rattle.std.specs.Str.{str_eq_ignore_ascii_case}
 use Rattle.rad_outside.specs.Moments.{IsInTime}
@@ -8,8 +8,7 @@ use Rattle.rad_words.specs.declared.codes.Code.TheVariants as code
 use Rattle.rad_words.specs.declared.sections.Section.{Section}
 use Rattle.rad_words.specs.declared.sections.Section.TheVariants.{Authorize, Authenticate}
 use Rattle.rad_value.specs.declared.scope.Scope.{Scope}
-use Rattle.rad_value.specs.declared.values.Pair.{Pair}
-use Rattle.rad_value.specs.Pairs.{is_of, first_text}
+use Rattle.rad_value.specs.Pairs.{first_text}
 use Rattle.rad_dict.specs.Definitions.{Definitions}
 use Rattle.rad_world.specs.World.{WorldState}
 use Rattle.mod_base.specs.Situation.{Situation}
@@ -19,7 +18,7 @@ use Rattle.unlang_code.specs.Sections.{server_of, found, statements_of}
 use Rattle.unlang_code.specs.Run.{section_of}
 use Rattle.rad_site.specs.declared.verdict.Verdict.{Verdict}
 use Rattle.rad_site.specs.declared.verdict.Verdict.TheVariants as verdict
-use Rattle.rad_site.specs.Attributes.{auth_type, reply_message}
+use Rattle.rad_site.specs.Attributes.{auth_type}
 use Rattle.rad_site.specs.SiteModules.{site_module}
 use Rattle.rad_site.specs.Policies.{Policies}
 
@@ -107,19 +106,11 @@ abbrev pub decided_behind : Policies → Definitions → List ℕ → Option Ver
 decided_behind policies dict server (Some verdict) s = (s, verdict)
 decided_behind policies dict server None s = authenticated policies dict server s
 
--- The situation at the end of a request to a server, and what became of it: authorize runs, and then authenticate where
--- the request goes on.
-unfoldable pub decided : Policies → Definitions → List ℕ → Situation → Situation × Verdict
-decided policies dict server s =
+-- The situation behind authenticate, and whether the request was let in: authorize runs, and then authenticate where the
+-- request goes on.
+unfoldable pub let_in : Policies → Definitions → List ℕ → Situation → Situation × Verdict
+let_in policies dict server s =
     let done = authorized policies dict server s in decided_behind policies dict server done.1 done.0
-
--- What a rejected request keeps of a pair, in a list.
-abbrev pub kept_of : Pair → List Pair
-kept_of pair = if is_of reply_message pair then pair ∷ [] else []
-
--- The pairs that a rejected request keeps for its reply: Reply-Message alone.
-abbrev pub kept : List Pair → List Pair
-kept pairs = filter (is_of reply_message) pairs
 
 -- A section may be run: its moment is in time, and its world takes changes.
 pub record IsReady (scope : Scope) (world : WorldState) : Type 0 where

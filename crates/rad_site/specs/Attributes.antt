@@ -9,3 +9,7 @@ reply_message = record { space = Standard; number = 18 }
 -- Auth-Type, the first internal attribute.
 abbrev pub auth_type : AttrId
 auth_type = record { space = Internal; number = 1 }
+
+-- Response-Packet-Type, the third.
+abbrev pub response_packet_type : AttrId
+response_packet_type = record { space = Internal; number = 3 }

@@ -50,9 +50,9 @@ most_clients = 4096
 abbrev pub is_client : Node → Bool
 is_client = is_block (codes "client")
 
--- Blocks at the top that aren't built and would change what the site means: realms and the control wire.
+-- Blocks at the top that aren't built and would change what the site means: that of the control wire.
 abbrev pub is_unbuilt : Node → Bool
-is_unbuilt node = is_block (codes "realm") node || is_block (codes "control") node
+is_unbuilt = is_block (codes "control")
 
 -- At the top stands no block that isn't built. Other settings and blocks are passed over.
 abbrev pub none_unbuilt : List Node → Result (Unit {0}) BuildFault

@@ -65,6 +65,14 @@ is_section wanted node = elim (out-Item node.item) [
   | level.Block kind name body ↦ str_eq_ignore_ascii_case kind.text wanted
 ]
 
+-- The kind of a block, which is a policy's name among the items of a block `policy`; none of another item.
+abbrev pub kind_of : Node → Option (List ℕ)
+kind_of node = elim (out-Item node.item) [
+  | level.Pair left operator right ↦ None
+  | level.Name word ↦ None
+  | level.Block kind name body ↦ Some kind.text
+]
+
 -- The name and the nodes of a block that has a name.
 abbrev pub named_block : Node → Option (List ℕ × List Node)
 named_block node = elim (out-Item node.item) [

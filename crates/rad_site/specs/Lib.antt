@@ -5,6 +5,8 @@ pub mod SiteLaws
 pub mod Policies
 pub mod BareWorld
 pub mod Access
+pub mod Decided
+pub mod Responses
 pub mod Site
 pub mod Request
 pub mod Sources
@@ -13,6 +15,9 @@ pub mod Items
 pub mod Numbers
 pub mod Settings
 pub mod ClientBlock
+pub mod RealmBlock
+pub mod RealmsSaid
+pub mod RealmSettings
 pub mod Modules
 pub mod ModulesBlock
 pub mod ListenBlock
@@ -24,3 +29,4 @@ pub mod FaultText
 pub mod Built
 pub mod Meaning
 pub mod Passwords
+pub mod Rejects

@@ -4,21 +4,24 @@ use Rattle.std.specs.Prelude.{ℕ, ◌≡◌, ◌+◌, Bool, ◌&&◌, ◌||◌,
 use Rattle.std.specs.Option.{is_some}
 use Rattle.rad_words.specs.declared.codes.Code.{Code}
 use Rattle.rad_words.specs.declared.codes.Code.TheVariants as code
+use Rattle.mod_realm.specs.declared.realms.Realm.{Realm}
 use Rattle.unlang_tree.specs.Instances.{Instance, number_of}
 use Rattle.rad_site.specs.declared.site_module.SiteModule.{SiteModule}
 use Rattle.rad_site.specs.declared.site_module.SiteModule.TheVariants as site
 use Rattle.rad_site.specs.Codes.{name_of, is_code_name}
 use Rattle.rad_site.specs.SiteModules.{methods_of}
 
--- The instances, the modules behind their numbers, and how many instances have a name that is no return code's.
+-- The realms of the site, its instances, the modules behind their numbers, and how many instances have a name that is no
+-- return code's.
 pub record Modules : Type 0 where
+  pub realms : List Realm
   pub instances : List Instance
   pub stack : List SiteModule
   pub others : ℕ
 
--- Before the first module a site has none.
-abbrev pub no_modules : Modules
-no_modules = record { instances = []; stack = []; others = 0 }
+-- Before the first module a site has its realms alone.
+abbrev pub no_modules : List Realm → Modules
+no_modules realms = record { realms = realms; instances = []; stack = []; others = 0 }
 
 -- The instance of a module by this name.
 abbrev pub instance_by : List ℕ → SiteModule → Instance
@@ -40,6 +43,7 @@ has_room known name = nat_lt (length known.instances) 1024 && (is_code_name name
 -- The modules with one more by this name, whose number is how many there were.
 abbrev pub and_module : Modules → List ℕ → SiteModule → Modules
 and_module known name m = record {
+  realms = known.realms;
   instances = known.instances ++ instance_by name m ∷ [];
   stack = known.stack ++ m ∷ [];
   others = if is_code_name name then known.others else known.others + 1;

@@ -15,8 +15,9 @@ use Rattle.rad_policy.specs.declared.outcome.Outcome.TheVariants as outcome
 use Rattle.rad_policy.specs.Policy.{Reply, Replies, Withholds}
 use Rattle.mod_base.specs.Situation.{Situation}
 use Rattle.rad_site.specs.declared.verdict.Verdict.{Verdict}
-use Rattle.rad_site.specs.declared.verdict.Verdict.TheVariants as verdict
-use Rattle.rad_site.specs.Access.{has_server, decided, kept}
+use Rattle.rad_site.specs.Access.{has_server}
+use Rattle.rad_site.specs.Decided.{decided}
+use Rattle.rad_site.specs.Responses.{response_of}
 use Rattle.rad_site.specs.Site.{Site}
 
 -- The client of a source address: of those whose network has it, the one with the longest prefix.
@@ -56,12 +57,14 @@ decided_by site arrival packet secret moment luck answers =
     decided site.policies site.dict arrival.server
     (begun_in (begun_scope (requested (pairs_of packet secret site.dict)) arrival.from moment luck (authenticator_of packet)) answers)
 
--- The reply of a verdict: an Access-Accept (2) of the reply list, an Access-Reject (3) of what a rejected request
--- keeps of it, or none.
+-- The reply of a code: a packet of the reply list, or none.
+abbrev pub reply_with : PairLists → Option ℕ → List ℕ → List ℕ → Reply
+reply_with lists None packet secret = Withholds
+reply_with lists (Some code) packet secret = Replies (reply_octets code lists.reply packet secret)
+
+-- The reply of a verdict: a packet of the reply list by the code that the verdict and the control list make, or none.
 abbrev pub reply_to : PairLists → Verdict → List ℕ → List ℕ → Reply
-reply_to lists verdict.Accept packet secret = Replies (reply_octets 2 lists.reply packet secret)
-reply_to lists verdict.Reject packet secret = Replies (reply_octets 3 (kept lists.reply) packet secret)
-reply_to lists verdict.Withhold packet secret = Withholds
+reply_to lists verdict packet secret = reply_with lists (response_of lists verdict) packet secret
 
 -- What an authentic access request is answered at a moment, with a luck word and these answers of devices.
 unfoldable pub access_of : Site → Arrived → ℕ → ℕ → List Bool → Reply

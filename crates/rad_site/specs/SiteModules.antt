@@ -12,6 +12,8 @@ use Rattle.mod_lists.specs.Done.{done_to_lists}
 use Rattle.mod_users.specs.Module as files
 use Rattle.mod_auth.specs.Pap.{pap_methods, auth_type_alone, pap_done}
 use Rattle.mod_auth.specs.Chap.{chap_done}
+use Rattle.mod_realm.specs.Named.{realm_methods, realm_edits, realm_done}
+use Rattle.mod_filter.specs.Module.{filter_methods, filter_edits, filter_in}
 use Rattle.rad_site.specs.declared.site_module.SiteModule.{SiteModule}
 use Rattle.rad_site.specs.declared.site_module.SiteModule.TheVariants as site
 
@@ -21,6 +23,8 @@ methods_of (site.Always m) = replicate 6 true
 methods_of (site.Files m) = files.methods_of
 methods_of (site.Pap m) = pap_methods
 methods_of (site.Chap m) = pap_methods
+methods_of (site.Realm m) = realm_methods
+methods_of (site.Filter m) = filter_methods
 
 -- The attributes of each list that a module may edit.
 abbrev pub edits_of : SiteModule → ListName → AttrId → Bool
@@ -28,6 +32,8 @@ edits_of (site.Always m) = λ list attr. false
 edits_of (site.Files m) = files.edits m
 edits_of (site.Pap m) = auth_type_alone
 edits_of (site.Chap m) = auth_type_alone
+edits_of (site.Realm m) = realm_edits
+edits_of (site.Filter m) = filter_edits
 
 -- What a module does for a section.
 abbrev pub does : SiteModule → Definitions → Section → Situation → Situation × Code
@@ -35,6 +41,8 @@ does (site.Always m) dict method situation = (situation, m.code)
 does (site.Files m) dict method situation = files.does m dict situation
 does (site.Pap m) dict method situation = done_to_lists (λ (scope : Scope). pap_done m.name method scope.lists) situation
 does (site.Chap m) dict method situation = done_to_lists (λ (scope : Scope). chap_done m.name method scope.authenticator scope.lists) situation
+does (site.Realm m) dict method situation = done_to_lists (λ (scope : Scope). realm_done m.realms m.format m.delimiter method scope.lists) situation
+does (site.Filter m) dict method situation = done_to_lists (filter_in m dict method) situation
 
 -- The meaning of a site's modules.
 abbrev pub site_module : Meaning SiteModule

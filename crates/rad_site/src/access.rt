@@ -1,9 +1,9 @@
-//! What becomes of an access request, from section to section.
+//! Whether an access request is let in: authorize and authenticate.
 
 ghost use Rattle.std.specs.Prelude.{◌≡◌, IfOk, OnOk, IfSome};
 ghost use Rattle.std.specs.Option.{option_copied, is_none};
 ghost use Rattle.mod_base.specs.Reaching.{Reaches};
-ghost use Rattle.rad_site.specs.Access.{after_authorize, after_authenticate, has_server, section_named, route_of, verdict_by, settled, done_in, authorized, authenticated, decided, HasStatements, IsReady};
+ghost use Rattle.rad_site.specs.Access.{after_authorize, after_authenticate, has_server, section_named, route_of, verdict_by, settled, done_in, authorized, authenticated, let_in, HasStatements, IsReady};
 
 use crate::attributes::AUTH_TYPE;
 use crate::policies::Policies;
@@ -81,7 +81,12 @@ impl Policies {
 
     /// The section of a kind in a server, or its subsection of a name, where it is there.
     #[tactic(auto, unfolding(crate::specs::Access::section_named))]
-    fn find(&self, server: &[u8], section: Section, sub: Option<&[u8]>) -> Option<SectionId>
+    pub(crate) fn find(
+        &self,
+        server: &[u8],
+        section: Section,
+        sub: Option<&[u8]>,
+    ) -> Option<SectionId>
         ensures found { result ≡ section_named self.now.table server.now section (option_copied sub.entry) }
         ensures stands { IfSome result (HasStatements self.now.table) }
     {
@@ -92,7 +97,7 @@ impl Policies {
     }
 
     /// Runs a section that was found. The scope stays in time. After want of memory it is given up.
-    fn run<W: World>(
+    pub(crate) fn run<W: World>(
         &self,
         alloc: Global,
         id: SectionId,
@@ -161,6 +166,7 @@ impl Policies {
     ) -> Result<Verdict, NoMemory>
         requires ready { IsReady scope.old (W.state world.old) }
         ensures ok { IfOk result (λ verdict. Reaches scope.old (W.state world.old) (authenticated self.now dict.now server.now) scope.new (W.state world.new) (λ s. (s, verdict))) }
+        ensures ready { OnOk result (IsReady scope.new (W.state world.new)) }
     {
         let name = scope.lists.first_text(ListName::Control, AUTH_TYPE);
         let route = self.route_of(server, name);
@@ -174,7 +180,7 @@ impl Policies {
     }
 
     /// Runs authorize, and then authenticate where the request goes on. After want of memory the scope is given up.
-    pub(crate) fn decide<W: World>(
+    pub(crate) fn let_in<W: World>(
         &self,
         alloc: Global,
         server: &[u8],
@@ -183,7 +189,8 @@ impl Policies {
         dict: &Dict,
     ) -> Result<Verdict, NoMemory>
         requires ready { IsReady scope.old (W.state world.old) }
-        ensures ok { IfOk result (λ verdict. Reaches scope.old (W.state world.old) (decided self.now dict.now server.now) scope.new (W.state world.new) (λ s. (s, verdict))) }
+        ensures ok { IfOk result (λ verdict. Reaches scope.old (W.state world.old) (let_in self.now dict.now server.now) scope.new (W.state world.new) (λ s. (s, verdict))) }
+        ensures ready { OnOk result (IsReady scope.new (W.state world.new)) }
     {
         let decided = self.authorize(alloc, server, scope, world, dict)?;
         if goes_on(decided) {

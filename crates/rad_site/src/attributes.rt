@@ -11,3 +11,8 @@ pub(crate) const AUTH_TYPE: AttrId = AttrId {
     space: Space::Internal,
     number: 1,
 };
+
+pub(crate) const RESPONSE_PACKET_TYPE: AttrId = AttrId {
+    space: Space::Internal,
+    number: 3,
+};

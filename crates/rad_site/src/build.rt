@@ -10,6 +10,8 @@ mod modules;
 mod numbers;
 mod path;
 mod policies;
+mod realm_settings;
+mod realms;
 mod refusal;
 mod servers;
 mod settings;

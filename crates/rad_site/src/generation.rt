@@ -23,10 +23,11 @@ impl Model for Generation {
     ghost use Rattle.rad_site.specs.Site.{Site};
     ghost use Rattle.std.specs.Coded.{codes};
     ghost use Rattle.unlang_xlat.specs.contracts.part.Part as part;
+    ghost use Rattle.unlang_tree.specs.contracts.statement.StatementKind as kind;
 
     ghost Value = { Site };
 
-    ghost coded = { Prim.hlevel (codes, part.the_row.coded) };
+    ghost coded = { Prim.hlevel (codes, part.the_row.coded, kind.the_row.coded) };
 
     ghost view = { λ g. record {
       dict = g.dict;

@@ -14,7 +14,10 @@ mod generation;
 mod laws;
 mod policies;
 mod policy;
+mod post_auth;
+mod reject_laws;
 mod reply;
+mod response;
 mod settings;
 mod site_module;
 mod verdict;
@@ -23,8 +26,10 @@ pub use build::fault_text;
 pub use fault::BuildFault;
 pub use generation::Generation;
 pub use laws::{
-    challenges_let_requests_in, passwords_and_challenges_let_requests_in, passwords_let_requests_in,
+    challenges_let_requests_in, passwords_and_challenges_let_requests_in,
+    passwords_let_requests_in, realms_are_what_their_blocks_say,
 };
+pub use reject_laws::rejected_replies_have_messages_and_what_reject_adds;
 pub use settings::Settings;
 pub use site_module::SiteModule;
 pub use unlang_tree::TreeFault;

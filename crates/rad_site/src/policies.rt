@@ -17,10 +17,11 @@ impl Model for Policies {
     ghost use Rattle.rad_site.specs.SiteModules.{site_module};
     ghost use Rattle.std.specs.Coded.{codes};
     ghost use Rattle.unlang_xlat.specs.contracts.part.Part as part;
+    ghost use Rattle.unlang_tree.specs.contracts.statement.StatementKind as kind;
 
     ghost Value = { Policies };
 
-    ghost coded = { Prim.hlevel (codes, part.the_row.coded) };
+    ghost coded = { Prim.hlevel (codes, part.the_row.coded, kind.the_row.coded) };
 
     ghost view = { λ p. record {
       stack = p.stack;

@@ -5,6 +5,8 @@ ghost use Rattle.rad_site.specs.SiteLaws.{site_module_lawful};
 
 use mod_auth::{Chap, Pap};
 use mod_base::{Always, MethodSet, Module, World};
+use mod_filter::AttrFilter;
+use mod_realm::RealmModule;
 use mod_users::FilesModule;
 use rad_dict::Dict;
 use rad_outside::NoMemory;
@@ -23,6 +25,10 @@ pub enum SiteModule {
     Pap(Pap),
     /// `chap { }`
     Chap(Chap),
+    /// `realm { format = suffix, delimiter = OCTET }`
+    Realm(RealmModule),
+    /// `attr_filter { filename = NAME, key = TEXT }`
+    Filter(AttrFilter),
 }
 
 impl Module for SiteModule {
@@ -34,6 +40,8 @@ impl Module for SiteModule {
             SiteModule::Files(files) => files.methods(),
             SiteModule::Pap(pap) => pap.methods(),
             SiteModule::Chap(chap) => chap.methods(),
+            SiteModule::Realm(realm) => realm.methods(),
+            SiteModule::Filter(filter) => filter.methods(),
         }
     }
 
@@ -50,6 +58,8 @@ impl Module for SiteModule {
             SiteModule::Files(files) => files.call(alloc, method, scope, world, dict),
             SiteModule::Pap(pap) => pap.call(alloc, method, scope, world, dict),
             SiteModule::Chap(chap) => chap.call(alloc, method, scope, world, dict),
+            SiteModule::Realm(realm) => realm.call(alloc, method, scope, world, dict),
+            SiteModule::Filter(filter) => filter.call(alloc, method, scope, world, dict),
         }
     }
 

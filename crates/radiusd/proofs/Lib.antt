@@ -1,12 +1,4 @@
-pub mod Turns
-pub mod Kept
-pub mod Telling
-pub mod Tolds
-pub mod Leavings
 pub mod Printings
-pub mod Passes
-pub mod Installs
 pub mod Headlines
 pub mod Statuses
 pub mod Folders
-pub mod Tallies

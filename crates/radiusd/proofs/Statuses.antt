@@ -20,7 +20,8 @@ use Rattle.radiusd.specs.Words.{both, order_in, folder_in}
 use Rattle.radiusd.specs.Printing.{Prints}
 use Rattle.radiusd.specs.Course.{IsCourse, Unbuilt, Checked, Serving, fault_line, HasDeafWire}
 use Rattle.radiusd.specs.ExitStatuses.{number_of, status_of, IsServing}
-use Rattle.radiusd.specs.Statuses.{IsSiteFault, IsRefused, FaultGives, SiteGives, NothingFailed, IsListed, IsFull}
+use Rattle.radiusd.specs.Statuses.{IsSiteFault, IsRefused, FaultGives, SiteGives, NothingFailed, IsListed}
+use Rattle.rad_serve.specs.History.{IsFull}
 use Rattle.rad_outside.proofs.Tellings.{Tells-same, Tells-weaker}
 use Rattle.radiusd.proofs.Printings.{Prints-weaker}
 

@@ -13,9 +13,9 @@ use Rattle.rad_policy.specs.Policy.{IsBuilt}
 use Rattle.rad_site.specs.declared.fault.BuildFault.{BuildFault}
 use Rattle.rad_site.specs.declared.fault.BuildFault.TheVariants as fault
 use Rattle.rad_site.specs.Built.{built}
-use Rattle.radiusd.specs.Counting.{counts_of}
+use Rattle.rad_serve.specs.Counting.{counts_of}
 use Rattle.rad_site.specs.FaultText.{fault_text}
-use Rattle.radiusd.specs.History.{listener_of}
+use Rattle.radiusd.specs.Loading.{listener_of}
 use Rattle.radiusd.specs.Lines.{listening_line, counts_line, socket_fault_line, worn_line, usage_line, checked_line}
 use Rattle.rad_site.specs.Meaning.{site_meaning}
 use Rattle.rad_site.specs.Site.{Site}

@@ -14,14 +14,14 @@ use Rattle.rad_core.specs.Worker.{Placed, placed, of_worker, served, answered, I
 use Rattle.rad_core.specs.Completeness.{EachHasOneReply}
 use Rattle.rad_core.specs.Keeping.{KeepsReplies}
 use Rattle.rad_site.specs.declared.fault.BuildFault.{BuildFault}
-use Rattle.radiusd.specs.declared.left.Left.{Left}
+use Rattle.rad_serve.specs.declared.left.Left.{Left}
 use Rattle.radiusd.specs.Course.{Course, IsCourse, Takes, IsExcused, lines_of}
-use Rattle.radiusd.specs.History.{state_after}
-use Rattle.radiusd.specs.Leaving.{Leaves, IsAtEnd}
+use Rattle.rad_serve.specs.History.{state_after}
+use Rattle.rad_serve.specs.Leaving.{Leaves, IsAtEnd}
 use Rattle.rad_site.specs.Meaning.{site_meaning}
 use Rattle.radiusd.specs.Printing.{Prints}
 use Rattle.rad_site.specs.Site.{Site}
-use Rattle.radiusd.specs.Told.{KitTells, Hears, Sends, GrowsBy, IsAt}
+use Rattle.rad_serve.specs.Told.{KitTells, Hears, Sends, GrowsBy, IsAt}
 
 -- Each kit, with its worker's number and as it was handed out, is so. There are as many kits as were handed out.
 abbrev pub EachKit : {W S K U G : Type 0} → (ℕ → Handed W S K U G → Kit W S K U G → Type 0) → ℕ → List (Handed W S K U G) → List (Kit W S K U G) → Type 0

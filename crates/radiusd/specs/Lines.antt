@@ -2,7 +2,7 @@
 use Rattle.std.specs.Prelude.{ℕ, ◌/◌, ◌%◌, ◌++◌, List, [], ◌∷◌, codes}
 use Rattle.std.specs.Fmt.{decimal}
 use Rattle.rad_outside.specs.declared.listen.Peer.{Peer}
-use Rattle.radiusd.specs.declared.counts.Counts.{Counts}
+use Rattle.rad_serve.specs.declared.counts.Counts.{Counts}
 
 -- An address in four decimal parts.
 abbrev pub dotted : ℕ → List ℕ

@@ -1,5 +1,5 @@
 -- What a run's exit status says of its words and of its site. This project's own, after FreeRADIUS' radiusd(8).
-use Rattle.std.specs.Prelude.{ℕ, ◌≡◌, ◌⊎◌, ◌≤◌, ◌+◌, ◌^◌, length, List, Option, Some, Ok, Err}
+use Rattle.std.specs.Prelude.{ℕ, ◌≡◌, ◌⊎◌, List, Option, Some, Ok, Err}
 use Rattle.rad_outside.specs.declared.crew.Kit.{Kit}
 use Rattle.rad_outside.specs.Telling.{Tells, Rose}
 use Rattle.rad_outside.specs.Files.{FilesTold, begun}
@@ -10,7 +10,8 @@ use Rattle.radiusd.specs.declared.status.Status.{Status}
 use Rattle.radiusd.specs.declared.status.Status.TheVariants as status
 use Rattle.rad_site.specs.Built.{built}
 use Rattle.radiusd.specs.Course.{fault_line, HasDeafWire}
-use Rattle.radiusd.specs.History.{TriesInstall}
+use Rattle.rad_serve.specs.History.{IsFull}
+use Rattle.radiusd.specs.Loading.{TriesInstall}
 use Rattle.radiusd.specs.Lines.{checked_line}
 use Rattle.radiusd.specs.Printing.{Prints, PrintsWhole}
 use Rattle.rad_site.specs.Site.{Site}
@@ -56,10 +57,6 @@ FaultGives words Ends files_before files_now = Tells files_before files_now (λ 
 -- The exit statuses that there are.
 abbrev pub IsListed : ℕ → Type 0
 IsListed number = (number ≡ 0) ⊎ ((number ≡ 1) ⊎ ((number ≡ 2) ⊎ ((number ≡ 3) ⊎ ((number ≡ 4) ⊎ ((number ≡ 6) ⊎ ((number ≡ 7) ⊎ (number ≡ 8)))))))
-
--- The history has no room for two more entries: there are 2^62 at most.
-abbrev pub IsFull : List (Entry Site BuildFault) → Type 0
-IsFull history = 2 ^ 62 ≤ length history + 1
 
 -- The generation isn't installed, for a status that says why: there was no memory, or the history is full.
 pub record IsNotInstalled (before after : List (Entry Site BuildFault)) (generation : Site) (ended : Status) : Type 0 where

@@ -1,11 +1,11 @@
 ghost use Rattle.std.specs.Prelude.{◌≡◌, ◌∷◌, [], IfOk, IfErr};
 ghost use Rattle.std.specs.Arc.{arc_value};
-ghost use Rattle.radiusd.specs.History.{listener_of, IsInstalled};
+ghost use Rattle.radiusd.specs.Loading.{listener_of, IsInstalled};
 ghost use Rattle.radiusd.specs.Statuses.{IsNotInstalled};
 
-use crate::hub::Hub;
 use crate::status::Status;
 use rad_outside::{Listen, ListenKind, NoMemory, Octets, Shelf};
+use rad_serve::Hub;
 use rad_site::Generation;
 use std::alloc::Global;
 use std::sync::{Arc, Wait};

@@ -4,8 +4,8 @@ ghost use Rattle.std.specs.Prelude.{◌≡◌, ◌++◌, IfOk, OnOk};
 ghost use Rattle.std.specs.Fmt.{decimal};
 ghost use Rattle.radiusd.specs.Lines.{dotted, listening_line, counts_line};
 
-use crate::counts::Counts;
 use rad_outside::{NoMemory, Octets, Peer};
+use rad_serve::Counts;
 use std::alloc::Global;
 
 /// Adds a number in decimal digits.

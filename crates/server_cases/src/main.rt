@@ -13,7 +13,7 @@ use shared_cases::{Form, Tally};
 use std::process::ExitCode;
 
 /// The files of cases.
-const FILES: [&str; 8] = [
+const FILES: [&str; 13] = [
     "serving.cases",
     "repeats.cases",
     "failing.cases",
@@ -21,6 +21,11 @@ const FILES: [&str; 8] = [
     "sites.cases",
     "users.cases",
     "updates.cases",
+    "blocks.cases",
+    "policies.cases",
+    "realms.cases",
+    "post_auth.cases",
+    "filters.cases",
     "dictionaries.cases",
 ];
 

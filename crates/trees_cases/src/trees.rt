@@ -1,7 +1,7 @@
 //! Source trees as text: each server as `NAME{..}`, in it each section as its name, its statements and its subsections
 //! and a semicolon. A statement is ` LINE:call NUMBER`, by the number of the instance, with `{CODE=ACTION ..}` where it has
-//! actions of its own, or ` LINE:update{..}` as `updates` says. A
-//! subsection is ` [NAME..]` with its statements. No servers at all are `nothing`.
+//! actions of its own, ` LINE:return`, ` LINE:update{..}` as `updates` says, or ` LINE:FORM(..)` for a block of statements, with its own
+//! actions before its statements; the call of a policy is such a block of the form `policy`. A subsection is ` [NAME..]` with its statements. No servers at all are `nothing`.
 
 use crate::updates::push_update;
 use rad_outside::NoMemory;
@@ -9,7 +9,7 @@ use rad_tables::Action;
 use rad_words::{Code, Section};
 use shared_cases::push_number;
 use std::alloc::Global;
-use unlang_tree::{Override, Policies, SectionTree, Statement, StatementKind};
+use unlang_tree::{GroupForm, Override, Policies, SectionTree, Statement, StatementKind};
 
 /// The text of all servers.
 pub fn policies_text(alloc: Global, policies: &Policies) -> Result<Vec<u8>, NoMemory> {
@@ -53,6 +53,7 @@ fn push_section(alloc: Global, to: &mut Vec<u8>, section: &SectionTree) -> Resul
 }
 
 /// Writes statements; of more than eight the first, the last and their number alone.
+#[cycle(statements)]
 fn push_statements(
     alloc: Global,
     to: &mut Vec<u8>,
@@ -75,6 +76,8 @@ fn push_statements(
     Ok(())
 }
 
+/// Writes a statement, with those in it.
+#[cycle(statements)]
 fn push_statement(alloc: Global, to: &mut Vec<u8>, statement: &Statement) -> Result<(), NoMemory> {
     to.push(b' ')?;
     push_number(alloc, to, u64::from(statement.place.line))?;
@@ -84,10 +87,30 @@ fn push_statement(alloc: Global, to: &mut Vec<u8>, statement: &Statement) -> Res
             push_number(alloc, to, u64::from(call.instance))?;
             push_overrides(alloc, to, call.overrides.as_slice())
         }
+        StatementKind::Group(group) => {
+            to.push(b':')?;
+            to.extend_from_slice(form_name(group.form))?;
+            push_overrides(alloc, to, group.overrides.as_slice())?;
+            to.push(b'(')?;
+            push_statements(alloc, to, group.statements.as_slice())?;
+            Ok(to.push(b')')?)
+        }
+        StatementKind::Return => Ok(to.extend_from_slice(b":return")?),
         StatementKind::Update(lines) => {
             to.push(b':')?;
             push_update(alloc, to, lines.as_slice())
         }
+    }
+}
+
+/// The word of a form of blocks.
+fn form_name(form: GroupForm) -> &'static [u8] {
+    match form {
+        GroupForm::Group => b"group",
+        GroupForm::Redundant => b"redundant",
+        GroupForm::LoadBalance => b"load-balance",
+        GroupForm::RedundantLoadBalance => b"redundant-load-balance",
+        GroupForm::Policy => b"policy",
     }
 }
 

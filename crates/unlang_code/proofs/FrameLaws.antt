@@ -1,6 +1,7 @@
 -- What stays outside the frames of statements.
 use Rattle.std.specs.Prelude.{map, filter, not, slice_get}
-use Rattle.std.specs.List.{list_any}
+use Rattle.std.specs.List.{list_any, AllByRecursion}
+use Rattle.rad_tables.specs.declared.group_kind.GroupKind.TheVariants.{Plain}
 use Rattle.std.proofs.Common.{◌≡◌, Bool, true, false, ◌&&◌, ◌||◌, cond, List, [], ◌∷◌, Option, Some, None, refl, sym, ap, ◌∙◌}
 use Rattle.rad_words.specs.declared.attributes.AttrId.{AttrId}
 use Rattle.rad_words.specs.declared.sections.Section.{Section}
@@ -9,8 +10,6 @@ use Rattle.rad_value.specs.declared.edits.Edit.{Edit}
 use Rattle.rad_value.specs.declared.edits.ListName.{ListName}
 use Rattle.rad_value.specs.declared.edits.ListName.TheVariants.{Request, Reply, Control}
 use Rattle.rad_value.specs.declared.values.Pair.{Pair}
-use Rattle.rad_value.specs.declared.values.Value.{Value}
-use Rattle.rad_value.specs.declared.scope.Scope.{Scope}
 use Rattle.rad_value.specs.Edit.{tried, edited, lists_edited, is_full, pair_of}
 use Rattle.rad_value.specs.Pairs.{is_of, values_of}
 use Rattle.rad_value.specs.PairLists.{PairLists, list_of, with_list}
@@ -20,16 +19,17 @@ use Rattle.rad_dict.proofs.Lookups.{same_attr_is}
 use Rattle.mod_base.specs.Situation.{Situation}
 use Rattle.mod_base.specs.Meaning.{Meaning, IsLawful}
 use Rattle.mod_base.proofs.Frames.{filter_within, values_stay}
-use Rattle.unlang_tree.specs.declared.update.Line.{Line}
-use Rattle.unlang_tree.specs.declared.statement.Override.{Override}
 use Rattle.unlang_tree.specs.declared.statement.Statement.{Statement}
-use Rattle.unlang_tree.specs.declared.statement.StatementKind.{StatementKind}
-use Rattle.unlang_tree.specs.declared.statement.StatementKind.TheVariants as kinds
+use Rattle.rad_value.specs.declared.values.Value.{Value}
+use Rattle.rad_value.specs.declared.scope.Scope.{Scope}
+use Rattle.unlang_tree.specs.declared.update.Line.{Line}
 use Rattle.unlang_code.specs.declared.update.Said.{Said}
 use Rattle.unlang_code.specs.declared.update.Said.TheVariants as said
-use Rattle.unlang_code.specs.Updates.{said_by, edit_of, tried_to, done_with, line_done, then_rest, lines_done}
-use Rattle.unlang_code.specs.Run.{Outcome, called_of, kind_done, statement_done, is_over, and_then, run_of, section_done, begun, in_scope}
-use Rattle.unlang_code.specs.Frames.{same_list, module_edits, line_edits, kind_edits, edits_of}
+use Rattle.unlang_code.specs.Updates.{said_by, edit_of, tried_to, done_with}
+use Rattle.unlang_code.specs.Run.{section_done, begun, in_scope}
+use Rattle.unlang_code.specs.Frames.{same_list, module_edits, line_edits, leaf_edits, edits_of}
+use Rattle.unlang_code.specs.Leaves.{Leaf, Calls, Edits, module_done, leaf_done, leaves_of}
+use Rattle.unlang_code.proofs.Leaving.{IsLasting, LeafLeads, run_leads}
 
 other_pair : (attr own : AttrId) → same_attr attr own ≡ false → (pair : Pair) → is_of attr pair ≡ true → not (is_of own pair) ≡ true
 other_pair attr own other pair is = rw (same_attr_is pair.attr attr is) (rw other refl)
@@ -73,10 +73,6 @@ pub tried_lists : (before : PairLists) (edit : Edit) (lists : PairLists) → tri
 unfolding tried
 tried_lists before edit lists is = which_lists (is_full edit.op edit.attr (list_of before edit.list)) (lists_edited before edit) lists is
 
-pub none_of : (a b : Bool) → (a || b) ≡ false → (a ≡ false) × (b ≡ false)
-none_of false b is = (refl, is)
-none_of true b is = absurd (cc)
-
 tried_leaves : (line : Line) (v : Value) (scope : Scope) (list : ListName) (attr : AttrId) (lists : Option PairLists) → tried scope.lists (edit_of line v) ≡ lists → line_edits list attr line ≡ false
     → values_of attr (list_of (tried_to lists scope).0.lists list) ≡ values_of attr (list_of scope.lists list)
 tried_leaves line v scope list attr None is free = refl
@@ -89,48 +85,38 @@ said_leaves line (said.Value v) scope list attr free = tried_leaves line v scope
 said_leaves line said.Nothing scope list attr free = refl
 said_leaves line said.Unreadable scope list attr free = refl
 
-then_rest_leaves : (rest : Scope → Scope × Bool) (b : Bool) (scope : Scope) (list : ListName) (attr : AttrId) → values_of attr (list_of (rest scope).0.lists list) ≡ values_of attr (list_of scope.lists list)
-    → values_of attr (list_of (then_rest rest b scope).0.lists list) ≡ values_of attr (list_of scope.lists list)
-then_rest_leaves rest true scope list attr leaves = leaves
-then_rest_leaves rest false scope list attr leaves = refl
-
--- lines leave what none of them names
-pub lines_leave : (dict : Definitions) (lines : List Line) (scope : Scope) (list : ListName) (attr : AttrId) → list_any (line_edits list attr) lines ≡ false
-    → values_of attr (list_of (lines_done dict lines scope).0.lists list) ≡ values_of attr (list_of scope.lists list)
-lines_leave dict [] scope list attr free = refl
-lines_leave dict (line ∷ lines) scope list attr free =
-    let each = none_of (line_edits list attr line) (list_any (line_edits list attr) lines) free in
-    let first = line_done dict line scope in
-    then_rest_leaves (lines_done dict lines) first.1 first.0 list attr (lines_leave dict lines first.0 list attr each.1)
-    ∙ said_leaves line (said_by dict line.attr line.right scope) scope list attr each.0
+pub none_of : (a b : Bool) → (a || b) ≡ false → (a ≡ false) × (b ≡ false)
+none_of false b is = (refl, is)
+none_of true b is = absurd (cc)
 
 module _ {M : Type 0} (meaning : Meaning M) (lawful : (m : M) (dict : Definitions) (method : Section) (s : Situation) → IsLawful (meaning.edits m) method s (meaning.does m dict method s).0)
-    (stack : List M) (dict : Definitions) (kind : Section) (list : ListName) (attr : AttrId) where
-  call_leaves : (overrides : List Override) (m : Option M) (s : Situation) → module_edits meaning m list attr ≡ false
-      → values_of attr (list_of (called_of meaning dict kind overrides m s).situation.scope.lists list) ≡ values_of attr (list_of s.scope.lists list)
-  call_leaves overrides None s free = refl
-  call_leaves overrides (Some m) s free = values_stay (meaning.edits m) kind s (meaning.does m dict kind s).0 list attr (lawful m dict kind s) free
+    (stack : List M) (dict : Definitions) (section : Section) (list : ListName) (attr : AttrId) where
+  abbrev Leaves : Situation → Situation → Type 0
+  Leaves s t = values_of attr (list_of t.scope.lists list) ≡ values_of attr (list_of s.scope.lists list)
 
-  kind_leaves : (statement : StatementKind) (s : Situation) → kind_edits meaning stack list attr statement ≡ false
-      → values_of attr (list_of (kind_done meaning stack dict kind statement s).situation.scope.lists list) ≡ values_of attr (list_of s.scope.lists list)
-  kind_leaves (kinds.Call call) s free = call_leaves call.overrides (slice_get stack call.instance) s free
-  kind_leaves (kinds.Update lines) s free = lines_leave dict lines s.scope list attr free
+  lasts : IsLasting Leaves
+  lasts = record {
+    alike = λ s. refl;
+    joined = λ a b c first second. second ∙ first;
+    noted = λ s t answer leaves. leaves;
+    chose = λ s t leaves. leaves;
+  }
 
-  and_then_leaves : (first : Outcome) (rest : Situation → Outcome) (t : Bool) → values_of attr (list_of (rest first.situation).situation.scope.lists list) ≡ values_of attr (list_of first.situation.scope.lists list)
-      → values_of attr (list_of (and_then t first rest).situation.scope.lists list) ≡ values_of attr (list_of first.situation.scope.lists list)
-  and_then_leaves first rest true leaves = refl
-  and_then_leaves first rest false leaves = leaves
+  module_leaves : (m : Option M) (s : Situation) → module_edits meaning m list attr ≡ false → Leaves s (module_done meaning dict section m s)
+  module_leaves None s free = refl
+  module_leaves (Some m) s free = values_stay (meaning.edits m) section s (meaning.does m dict section s).0 list attr (lawful m dict section s) free
 
-  run_leaves : (statements : List Statement) (s : Situation) → edits_of meaning stack statements list attr ≡ false
-      → values_of attr (list_of (run_of meaning stack dict kind statements s).situation.scope.lists list) ≡ values_of attr (list_of s.scope.lists list)
-  run_leaves [] s free = refl
-  run_leaves (statement ∷ statements) s free =
-      let first = statement_done meaning stack dict kind statement s in
-      let each = none_of (kind_edits meaning stack list attr statement.kind) (edits_of meaning stack statements list attr) free in
-      and_then_leaves first (run_of meaning stack dict kind statements) (is_over first) (run_leaves statements first.situation each.1)
-      ∙ kind_leaves statement.kind s each.0
+  leaf_leaves : (leaf : Leaf) → leaf_edits meaning stack list attr leaf ≡ false → (s : Situation) → Leaves s (leaf_done meaning stack dict section leaf s)
+  leaf_leaves (Calls call) free s = module_leaves (slice_get stack call.instance) s free
+  leaf_leaves (Edits line) free s = said_leaves line (said_by dict line.attr line.right s.scope) s.scope list attr free
+
+  each_leaves : (leaves : List Leaf) → list_any (leaf_edits meaning stack list attr) leaves ≡ false → AllByRecursion (LeafLeads Leaves lasts meaning stack dict section) leaves
+  each_leaves [] free = tt
+  each_leaves (leaf ∷ leaves) free =
+      let each = none_of (leaf_edits meaning stack list attr leaf) (list_any (leaf_edits meaning stack list attr) leaves) free in
+      (leaf_leaves leaf each.0, each_leaves leaves each.1)
 
   -- a section leaves what none of its statements may edit
   pub section_leaves : (statements : List Statement) (s : Situation) → edits_of meaning stack statements list attr ≡ false
-      → values_of attr (list_of (section_done meaning stack dict kind statements s).0.scope.lists list) ≡ values_of attr (list_of s.scope.lists list)
-  section_leaves statements s free = run_leaves statements (in_scope (begun s.scope) s) free
+      → values_of attr (list_of (section_done meaning stack dict section statements s).0.scope.lists list) ≡ values_of attr (list_of s.scope.lists list)
+  section_leaves statements s free = run_leads Leaves lasts meaning stack dict section statements (each_leaves (leaves_of statements) free) Plain (in_scope (begun s.scope) s)

@@ -1,6 +1,6 @@
 -- Lines of updates are done one by one.
 use Rattle.std.specs.Prelude.{get_or}
-use Rattle.std.proofs.Common.{◌≡◌, ◌<◌, ◌+◌, ℕ, Bool, true, false, List, [], ◌∷◌, Option, Some, None, length, drop, sym, ap, ◌∙◌, refl}
+use Rattle.std.proofs.Common.{◌≡◌, ◌<◌, ◌+◌, ℕ, Bool, List, ◌∷◌, Option, Some, None, length, drop, sym, ap, ◌∙◌, refl}
 use Rattle.std.proofs.lemmas.List.{drop_more}
 use Rattle.rad_outside.specs.Moments.{IsInTime}
 use Rattle.rad_value.specs.PairLists.{PairLists}

@@ -7,10 +7,9 @@ use Rattle.rad_words.specs.Attribute.{same_attr}
 use Rattle.rad_value.specs.declared.edits.ListName.{ListName}
 use Rattle.rad_value.specs.declared.edits.ListName.TheVariants.{Request, Reply, Control}
 use Rattle.mod_base.specs.Meaning.{Meaning}
-use Rattle.unlang_tree.specs.declared.update.Line.{Line}
 use Rattle.unlang_tree.specs.declared.statement.Statement.{Statement}
-use Rattle.unlang_tree.specs.declared.statement.StatementKind.{StatementKind}
-use Rattle.unlang_tree.specs.declared.statement.StatementKind.TheVariants as kind
+use Rattle.unlang_tree.specs.declared.update.Line.{Line}
+use Rattle.unlang_code.specs.Leaves.{Leaf, Calls, Edits, leaves_of}
 
 -- Two names of lists are the same.
 abbrev pub same_list : ListName → ListName → Bool
@@ -37,11 +36,11 @@ goes_to list line = same_list line.list list
 abbrev pub line_edits : ListName → AttrId → Line → Bool
 line_edits list attr line = same_list line.list list && same_attr attr line.attr.id
 
--- A call may edit what its module may, and an update what one of its lines may.
-abbrev pub kind_edits : {M : Type 0} → Meaning M → List M → ListName → AttrId → StatementKind → Bool
-kind_edits meaning stack list attr (kind.Call call) = module_edits meaning (slice_get stack call.instance) list attr
-kind_edits meaning stack list attr (kind.Update lines) = list_any (line_edits list attr) lines
+-- A call may edit what its module may, and a line of an update its own attribute.
+abbrev pub leaf_edits : {M : Type 0} → Meaning M → List M → ListName → AttrId → Leaf → Bool
+leaf_edits meaning stack list attr (Calls call) = module_edits meaning (slice_get stack call.instance) list attr
+leaf_edits meaning stack list attr (Edits line) = line_edits list attr line
 
--- Statements may edit what one of them may.
+-- Statements may edit what one of them may, those of the blocks in them too.
 abbrev pub edits_of : {M : Type 0} → Meaning M → List M → List Statement → ListName → AttrId → Bool
-edits_of meaning stack statements list attr = list_any (λ (statement : Statement). kind_edits meaning stack list attr statement.kind) statements
+edits_of meaning stack statements list attr = list_any (leaf_edits meaning stack list attr) (leaves_of statements)

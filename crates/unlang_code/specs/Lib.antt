@@ -2,6 +2,9 @@ pub mod Judgement
 pub mod Sections
 pub mod Updates
 pub mod Run
+pub mod Progress
+pub mod Progressing
 pub mod Serving
 pub mod Frames
 pub mod Leaves
+pub mod Operators

@@ -1,10 +1,12 @@
 //! The laws of policies, in the words of whoever writes them. They are facts about the definitions, and the functions do
 //! nothing.
 
-ghost use Rattle.std.specs.Prelude.{◌≡◌, ◌<◌, ◌≤◌, [], ◌∷◌, ◌++◌, ℕ, List, Option, Some, None, true, false, IsSome};
+ghost use Rattle.std.specs.Prelude.{◌≡◌, ◌≢◌, ◌<◌, ◌≤◌, [], ◌∷◌, ◌++◌, ℕ, List, Option, Some, None, true, false, IsSome};
 ghost use Rattle.std.specs.List.{list_any, AllByRecursion};
+ghost use Rattle.rad_words.specs.declared.codes.Code.{Code};
 ghost use Rattle.rad_words.specs.declared.codes.Code.TheVariants as code;
 ghost use Rattle.rad_words.specs.declared.sections.Section.{Section};
+ghost use Rattle.rad_tables.specs.declared.group_kind.GroupKind.{GroupKind};
 ghost use Rattle.rad_words.specs.declared.attributes.AttrId.{AttrId};
 ghost use Rattle.rad_value.specs.declared.edits.ListName.{ListName};
 ghost use Rattle.rad_value.specs.PairLists.{PairLists, list_of};
@@ -22,6 +24,8 @@ ghost use Rattle.unlang_code.specs.declared.section_id.SectionId.{SectionId};
 ghost use Rattle.unlang_code.specs.Sections.{found, statements_of};
 ghost use Rattle.unlang_code.specs.declared.judgement.Child.{Child};
 ghost use Rattle.unlang_code.specs.Judgement.{ends, judged, priority_of};
+ghost use Rattle.unlang_code.specs.Operators.{members_done, AnswersBehind, RunsOne};
+ghost use Rattle.unlang_tree.specs.declared.statement.GroupForm.TheVariants as form;
 
 use mod_base::Module;
 
@@ -51,8 +55,8 @@ pub fn sections_keep_their_frames<M: Module>()
 /// An update leaves each list to which none of its lines goes, whatever the request; so one whose lines all go to one list
 /// leaves the other two.
 pub fn updates_leave_other_lists()
-    ensures { (dict : Definitions) (kind : Section) (lines : List Line) (situation : Situation) (list : ListName) → list_any (goes_to list) lines ≡ false
-        → list_of (updated dict kind lines situation).situation.scope.lists list ≡ list_of situation.scope.lists list }
+    ensures { (dict : Definitions) (section : Section) (kind : GroupKind) (lines : List Line) (situation : Situation) (list : ListName) → list_any (goes_to list) lines ≡ false
+        → list_of (updated dict section kind lines situation).situation.scope.lists list ≡ list_of situation.scope.lists list }
 {}
 
 /// A fact of the three lists of a request, for the law below.
@@ -66,4 +70,17 @@ pub trait ListFact {
 pub fn sections_keep_what_their_statements_keep<M: Module, F: ListFact>()
     ensures { (stack : List M) (dict : Definitions) (kind : Section) (statements : List Statement) → EachLeaf (LeafKeeps F.holds M.meaning stack dict kind) statements
         → (situation : Situation) → F.holds situation.scope.lists → F.holds (section_done M.meaning stack dict kind statements situation).0.scope.lists }
+{}
+
+/// In a `redundant` block a member that succeeds is the last that runs: where it answers any code but fail, by the default
+/// actions, the block comes to the same, whatever members stand behind it.
+pub fn redundant_blocks_end_with_a_success<M: Module>()
+    ensures { (stack : List M) (dict : Definitions) (kind : Section) (before : List Statement) (member : Statement) (later : List Statement) (situation : Situation) (answer : Code)
+        → answer ≢ code.Fail → AnswersBehind M.meaning stack dict kind before member situation answer
+        → members_done M.meaning stack dict kind form.Redundant (before ++ member ∷ later) situation ≡ members_done M.meaning stack dict kind form.Redundant (before ++ member ∷ []) situation }
+{}
+
+/// A `load-balance` block with members runs exactly one of them, the picked one.
+pub fn load_balance_blocks_run_one_member<M: Module>()
+    ensures { (stack : List M) (dict : Definitions) (kind : Section) (first : Statement) (others : List Statement) (situation : Situation) → RunsOne M.meaning stack dict kind (first ∷ others) situation }
 {}

@@ -1,14 +1,20 @@
 //! A section's statements, run over a request.
 
-ghost use Rattle.std.specs.Prelude.{◌≡◌, true, IfOk, OnOk, OnErr};
+ghost use Rattle.std.specs.Prelude.{◌≡◌, true, None, ◌≤◌, length, map, IfOk, OnOk, OnErr};
+ghost use Rattle.std.specs.List.{AllByRecursion};
 ghost use Rattle.rad_words.specs.declared.sections.Section.TheVariants.{Accounting};
 ghost use Rattle.rad_outside.specs.Moments.{IsInTime};
 ghost use Rattle.mod_base.specs.Reaching.{Reaches, Stops};
-ghost use Rattle.unlang_code.specs.Run.{called, updated, update_code, one_child, IsUpdate, statement_done, section_done};
-ghost use Rattle.unlang_code.specs.Serving.{IsServed, IsKindServed, AreServed};
+ghost use Rattle.unlang_tree.specs.EachCall.{calls_in, calls_in_kind};
+ghost use Rattle.unlang_tree.specs.declared.statement.Group.{out-Group};
+ghost use Rattle.unlang_code.specs.Run.{called, update_code, one_child, IsUpdate, kind_done, statement_done, run_of, formed, rotated, balanced_in, group_done, section_done};
+ghost use Rattle.unlang_code.specs.Progressing.{come_to, done_in, ends_as};
+ghost use Rattle.unlang_code.specs.Serving.{IsServed, AreServed};
 
-use crate::judgement::{Child, child_of, default_code, ended_by, heavier_of};
+use crate::judgement::{Child, child_of, default_code};
+use crate::members::{as_done, of_child, picked, returned};
 use crate::observer::Observer;
+use crate::progress::{Done, Ended, Progress, absorbed, end_of};
 use crate::update::do_lines;
 use mod_base::{Module, Stack, World};
 use rad_dict::Dict;
@@ -17,102 +23,336 @@ use rad_tables::GroupKind;
 use rad_value::Scope;
 use rad_words::{Code, Section};
 use std::alloc::Global;
-use unlang_tree::{Call, Line, Statement, StatementKind};
+use unlang_tree::{Call, Group, GroupForm, Line, Statement, StatementKind};
 
 /// Calls a module, whose code is the last code.
 fn call<M: Module, W: World>(
     alloc: Global,
     stack: &Stack<M>,
     section: Section,
+    kind: GroupKind,
     call: &Call,
     scope: &mut Scope,
     world: &mut W,
     dict: &Dict,
-) -> Result<Child, NoMemory>
+) -> Result<Done, NoMemory>
     requires served { IsServed M.meaning stack.now section call.now }
     requires in_time { IsInTime scope.old.moment }
     requires changes { section ≡ Accounting → (W.state world.old).takes_changes ≡ true }
-    ensures ok { IfOk result (λ child. Reaches scope.old (W.state world.old) (called M.meaning stack.now dict.now section call.now) scope.new (W.state world.new) (one_child child)) }
+    ensures ok { IfOk result (λ value. Reaches scope.old (W.state world.old) (called M.meaning stack.now dict.now section kind call.now) scope.new (W.state world.new) (done_in value)) }
     ensures in_time { OnOk result (IsInTime scope.new.moment) }
-    ensures memory { OnErr result (Stops scope.old (W.state world.old) (λ s. (called M.meaning stack.now dict.now section call.now s).situation.effects) (W.state world.new)) }
+    ensures memory { OnErr result (Stops scope.old (W.state world.old) (λ s. (called M.meaning stack.now dict.now section kind call.now s).situation.effects) (W.state world.new)) }
 {
     let Some(module) = stack.get(call.instance) else {
         unreachable!()
     };
     let code = module.call(alloc, section, scope, world, dict)?;
     scope.last = Some(code);
-    Ok(child_of(section, GroupKind::Plain, call.overrides.as_slice(), code))
+    Ok(of_child(child_of(section, kind, call.overrides.as_slice(), code)))
 }
 
 /// Does an update.
 fn update(
     alloc: Global,
     section: Section,
+    kind: GroupKind,
     lines: &[Line],
     scope: &mut Scope,
     dict: &Dict,
 ) -> Result<Child, NoMemory>
     requires { IsInTime scope.old.moment }
-    ensures done { IfOk result (λ child. IsUpdate dict.now section lines.now scope.old scope.new child) }
+    ensures done { IfOk result (λ child. IsUpdate dict.now section kind lines.now scope.old scope.new child) }
     ensures in_time { OnOk result (IsInTime scope.new.moment) }
 {
     let done = do_lines(alloc, lines, scope, dict)?;
-    Ok(child_of(section, GroupKind::Plain, &[], update_code(done)))
+    Ok(child_of(section, kind, &[], update_code(done)))
 }
 
-/// The code of an update by whether all its lines were done.
+/// The code of an update whose lines were all done, or weren't.
 fn update_code(done: bool) -> Code
     ensures { result ≡ update_code done }
 {
     if done { Code::Noop } else { Code::Fail }
 }
 
-/// Does a statement.
-fn do_statement<M: Module, W: World>(
+/// Does a statement of this kind.
+#[cycle(running)]
+fn run_kind<M: Module, W: World, O: Observer>(
     alloc: Global,
     stack: &Stack<M>,
     section: Section,
-    statement: &Statement,
+    kind: GroupKind,
+    statement: &StatementKind,
     scope: &mut Scope,
     world: &mut W,
     dict: &Dict,
-) -> Result<Child, NoMemory>
-    requires served { IsKindServed M.meaning stack.now section statement.now.kind }
+    observer: &mut O,
+) -> Result<Done, NoMemory>
+    requires served { AllByRecursion (IsServed M.meaning stack.now section) (calls_in_kind statement.now) }
     requires in_time { IsInTime scope.old.moment }
     requires changes { section ≡ Accounting → (W.state world.old).takes_changes ≡ true }
-    ensures ok { IfOk result (λ child. Reaches scope.old (W.state world.old) (statement_done M.meaning stack.now dict.now section statement.now) scope.new (W.state world.new) (one_child child)) }
+    ensures ok { IfOk result (λ value. Reaches scope.old (W.state world.old) (kind_done M.meaning stack.now dict.now section statement.now kind) scope.new (W.state world.new) (done_in value)) }
     ensures in_time { OnOk result (IsInTime scope.new.moment) }
-    ensures memory { OnErr result (Stops scope.old (W.state world.old) (λ s. (statement_done M.meaning stack.now dict.now section statement.now s).situation.effects) (W.state world.new)) }
+    ensures memory { OnErr result (Stops scope.old (W.state world.old) (λ s. (kind_done M.meaning stack.now dict.now section statement.now kind s).situation.effects) (W.state world.new)) }
 {
-    match &statement.kind {
-        StatementKind::Call(called) => call(alloc, stack, section, called, scope, world, dict),
-        StatementKind::Update(lines) => update(alloc, section, lines.as_slice(), scope, dict),
+    match statement {
+        StatementKind::Call(called) => {
+            call(alloc, stack, section, kind, called, scope, world, dict)
+        }
+        StatementKind::Group(group) => run_group(
+            alloc, stack, section, kind, group, scope, world, dict, observer,
+        ),
+        StatementKind::Return => Ok(returned()),
+        StatementKind::Update(lines) => {
+            let child = update(alloc, section, kind, lines.as_slice(), scope, dict)?;
+            Ok(of_child(child))
+        }
     }
 }
 
 /// Does a statement, and tells the observer its code.
+#[cycle(running)]
 fn run_statement<M: Module, W: World, O: Observer>(
     alloc: Global,
     stack: &Stack<M>,
     section: Section,
+    kind: GroupKind,
     statement: &Statement,
     scope: &mut Scope,
     world: &mut W,
     dict: &Dict,
     observer: &mut O,
-) -> Result<Child, NoMemory>
-    requires served { IsKindServed M.meaning stack.now section statement.now.kind }
+) -> Result<Done, NoMemory>
+    requires served { AllByRecursion (IsServed M.meaning stack.now section) (calls_in statement.now) }
     requires in_time { IsInTime scope.old.moment }
     requires changes { section ≡ Accounting → (W.state world.old).takes_changes ≡ true }
-    ensures ok { IfOk result (λ child. Reaches scope.old (W.state world.old) (statement_done M.meaning stack.now dict.now section statement.now) scope.new (W.state world.new) (one_child child)) }
+    ensures ok { IfOk result (λ value. Reaches scope.old (W.state world.old) (statement_done M.meaning stack.now dict.now section statement.now kind) scope.new (W.state world.new) (done_in value)) }
     ensures in_time { OnOk result (IsInTime scope.new.moment) }
-    ensures memory { OnErr result (Stops scope.old (W.state world.old) (λ s. (statement_done M.meaning stack.now dict.now section statement.now s).situation.effects) (W.state world.new)) }
+    ensures memory { OnErr result (Stops scope.old (W.state world.old) (λ s. (statement_done M.meaning stack.now dict.now section statement.now kind s).situation.effects) (W.state world.new)) }
 {
-    let done = do_statement(alloc, stack, section, statement, scope, world, dict);
-    if let Ok(child) = done {
+    let done = run_kind(
+        alloc,
+        stack,
+        section,
+        kind,
+        &statement.kind,
+        scope,
+        world,
+        dict,
+        observer,
+    )?;
+    if let Some(child) = done.child {
         observer.ran(&statement.place, child.code);
     }
-    done
+    Ok(done)
+}
+
+/// Does statements in order, behind the heaviest child so far, up to the first behind which their group is over.
+#[cycle(running)]
+fn run_members<M: Module, W: World, O: Observer>(
+    alloc: Global,
+    stack: &Stack<M>,
+    section: Section,
+    kind: GroupKind,
+    leading: Option<Child>,
+    statements: &[Statement],
+    scope: &mut Scope,
+    world: &mut W,
+    dict: &Dict,
+    observer: &mut O,
+) -> Result<Progress, NoMemory>
+    requires served { AreServed M.meaning stack.now section statements.now }
+    requires in_time { IsInTime scope.old.moment }
+    requires changes { section ≡ Accounting → (W.state world.old).takes_changes ≡ true }
+    ensures ok { IfOk result (λ value. Reaches scope.old (W.state world.old) (λ s. come_to leading (run_of M.meaning stack.now dict.now section kind statements.now s)) scope.new (W.state world.new) (λ s. (s, value))) }
+    ensures in_time { OnOk result (IsInTime scope.new.moment) }
+    ensures memory { OnErr result (Stops scope.old (W.state world.old) (λ s. (run_of M.meaning stack.now dict.now section kind statements.now s).situation.effects) (W.state world.new)) }
+{
+    let mut leading = leading;
+    for statement in statements {
+        let done = run_statement(
+            alloc, stack, section, kind, statement, scope, world, dict, observer,
+        )?;
+        match absorbed(leading, done) {
+            Progress::Going(heaviest) => leading = heaviest,
+            Progress::Over(ended) => return Ok(Progress::Over(ended)),
+        }
+    }
+    Ok(Progress::Going(leading))
+}
+
+/// Runs all members of a block, from that of a number on and once round.
+#[cycle(running)]
+fn run_around<M: Module, W: World, O: Observer>(
+    alloc: Global,
+    stack: &Stack<M>,
+    section: Section,
+    kind: GroupKind,
+    statements: &[Statement],
+    place: usize,
+    scope: &mut Scope,
+    world: &mut W,
+    dict: &Dict,
+    observer: &mut O,
+) -> Result<Progress, NoMemory>
+    requires within { place ≤ length statements.now }
+    requires served { AreServed M.meaning stack.now section statements.now }
+    requires in_time { IsInTime scope.old.moment }
+    requires changes { section ≡ Accounting → (W.state world.old).takes_changes ≡ true }
+    ensures ok { IfOk result (λ value. Reaches scope.old (W.state world.old) (λ s. come_to None (run_of M.meaning stack.now dict.now section kind (rotated place statements.now) s)) scope.new (W.state world.new) (λ s. (s, value))) }
+    ensures in_time { OnOk result (IsInTime scope.new.moment) }
+    ensures memory { OnErr result (Stops scope.old (W.state world.old) (λ s. (run_of M.meaning stack.now dict.now section kind (rotated place statements.now) s).situation.effects) (W.state world.new)) }
+{
+    let (before, from) = statements.split_at(place);
+    let so_far = run_members(
+        alloc, stack, section, kind, None, from, scope, world, dict, observer,
+    )?;
+    match so_far {
+        Progress::Going(leading) => run_members(
+            alloc, stack, section, kind, leading, before, scope, world, dict, observer,
+        ),
+        Progress::Over(ended) => Ok(Progress::Over(ended)),
+    }
+}
+
+/// Runs one member of a block, or all from it on and once round.
+#[cycle(running)]
+fn run_balanced<M: Module, W: World, O: Observer>(
+    alloc: Global,
+    stack: &Stack<M>,
+    section: Section,
+    kind: GroupKind,
+    statements: &[Statement],
+    scope: &mut Scope,
+    world: &mut W,
+    dict: &Dict,
+    observer: &mut O,
+) -> Result<Ended, NoMemory>
+    requires served { AreServed M.meaning stack.now section statements.now }
+    requires in_time { IsInTime scope.old.moment }
+    requires changes { section ≡ Accounting → (W.state world.old).takes_changes ≡ true }
+    ensures ok { IfOk result (λ value. Reaches scope.old (W.state world.old) (λ s. ends_as (balanced_in kind (map (statement_done M.meaning stack.now dict.now section) statements.now) s)) scope.new (W.state world.new) (λ s. (s, value))) }
+    ensures in_time { OnOk result (IsInTime scope.new.moment) }
+    ensures memory { OnErr result (Stops scope.old (W.state world.old) (λ s. (balanced_in kind (map (statement_done M.meaning stack.now dict.now section) statements.now) s).situation.effects) (W.state world.new)) }
+{
+    let Some(place) = picked(scope, statements.len()) else {
+        return Ok(end_of(Progress::Going(None)));
+    };
+    let so_far = match kind {
+        GroupKind::Plain => {
+            let (_, from) = statements.split_at(place);
+            let (one, _) = from.split_at(1);
+            run_members(
+                alloc, stack, section, kind, None, one, scope, world, dict, observer,
+            )?
+        }
+        GroupKind::Redundant => run_around(
+            alloc, stack, section, kind, statements, place, scope, world, dict, observer,
+        )?,
+    };
+    scope.choices = scope.choices.wrapping_add(1);
+    Ok(end_of(so_far))
+}
+
+/// Runs all members of a block in order.
+#[cycle(running)]
+fn run_in_order<M: Module, W: World, O: Observer>(
+    alloc: Global,
+    stack: &Stack<M>,
+    section: Section,
+    kind: GroupKind,
+    statements: &[Statement],
+    scope: &mut Scope,
+    world: &mut W,
+    dict: &Dict,
+    observer: &mut O,
+) -> Result<Ended, NoMemory>
+    requires served { AreServed M.meaning stack.now section statements.now }
+    requires in_time { IsInTime scope.old.moment }
+    requires changes { section ≡ Accounting → (W.state world.old).takes_changes ≡ true }
+    ensures ok { IfOk result (λ value. Reaches scope.old (W.state world.old) (λ s. ends_as (run_of M.meaning stack.now dict.now section kind statements.now s)) scope.new (W.state world.new) (λ s. (s, value))) }
+    ensures in_time { OnOk result (IsInTime scope.new.moment) }
+    ensures memory { OnErr result (Stops scope.old (W.state world.old) (λ s. (run_of M.meaning stack.now dict.now section kind statements.now s).situation.effects) (W.state world.new)) }
+{
+    let so_far = run_members(
+        alloc, stack, section, kind, None, statements, scope, world, dict, observer,
+    )?;
+    Ok(end_of(so_far))
+}
+
+/// Runs the members of a block of a form.
+#[cycle(running)]
+fn run_formed<M: Module, W: World, O: Observer>(
+    alloc: Global,
+    stack: &Stack<M>,
+    section: Section,
+    form: GroupForm,
+    statements: &[Statement],
+    scope: &mut Scope,
+    world: &mut W,
+    dict: &Dict,
+    observer: &mut O,
+) -> Result<Ended, NoMemory>
+    requires served { AreServed M.meaning stack.now section statements.now }
+    requires in_time { IsInTime scope.old.moment }
+    requires changes { section ≡ Accounting → (W.state world.old).takes_changes ≡ true }
+    ensures ok { IfOk result (λ value. Reaches scope.old (W.state world.old) (λ s. ends_as (formed form (map (statement_done M.meaning stack.now dict.now section) statements.now) s)) scope.new (W.state world.new) (λ s. (s, value))) }
+    ensures in_time { OnOk result (IsInTime scope.new.moment) }
+    ensures memory { OnErr result (Stops scope.old (W.state world.old) (λ s. (formed form (map (statement_done M.meaning stack.now dict.now section) statements.now) s).situation.effects) (W.state world.new)) }
+{
+    let plain = GroupKind::Plain;
+    let redundant = GroupKind::Redundant;
+    match form {
+        GroupForm::Group => run_in_order(
+            alloc, stack, section, plain, statements, scope, world, dict, observer,
+        ),
+        GroupForm::Redundant => run_in_order(
+            alloc, stack, section, redundant, statements, scope, world, dict, observer,
+        ),
+        GroupForm::LoadBalance => run_balanced(
+            alloc, stack, section, plain, statements, scope, world, dict, observer,
+        ),
+        GroupForm::RedundantLoadBalance => run_balanced(
+            alloc, stack, section, redundant, statements, scope, world, dict, observer,
+        ),
+        GroupForm::Policy => run_in_order(
+            alloc, stack, section, plain, statements, scope, world, dict, observer,
+        ),
+    }
+}
+
+/// Runs a block, which is judged in its group by its own code and actions.
+#[cycle(running)]
+fn run_group<M: Module, W: World, O: Observer>(
+    alloc: Global,
+    stack: &Stack<M>,
+    section: Section,
+    kind: GroupKind,
+    group: &Group,
+    scope: &mut Scope,
+    world: &mut W,
+    dict: &Dict,
+    observer: &mut O,
+) -> Result<Done, NoMemory>
+    requires served { AreServed M.meaning stack.now section (out-Group group.now).statements }
+    requires in_time { IsInTime scope.old.moment }
+    requires changes { section ≡ Accounting → (W.state world.old).takes_changes ≡ true }
+    ensures ok { IfOk result (λ value. Reaches scope.old (W.state world.old) (group_done M.meaning stack.now dict.now section group.now kind) scope.new (W.state world.new) (done_in value)) }
+    ensures in_time { OnOk result (IsInTime scope.new.moment) }
+    ensures memory { OnErr result (Stops scope.old (W.state world.old) (λ s. (group_done M.meaning stack.now dict.now section group.now kind s).situation.effects) (W.state world.new)) }
+{
+    let ended = run_formed(
+        alloc,
+        stack,
+        section,
+        group.form,
+        group.statements.as_slice(),
+        scope,
+        world,
+        dict,
+        observer,
+    )?;
+    Ok(as_done(section, kind, group.overrides.as_slice(), ended))
 }
 
 /// Runs the statements of a section from its beginning, and answers its code.
@@ -129,23 +369,26 @@ pub(crate) fn run_section<M: Module, W: World, O: Observer>(
     requires served { AreServed M.meaning stack.now section statements.now }
     requires in_time { IsInTime scope.old.moment }
     requires changes { section ≡ Accounting → (W.state world.old).takes_changes ≡ true }
-    ensures ok { IfOk result (λ code. Reaches scope.old (W.state world.old) (section_done M.meaning stack.now dict.now section statements.now) scope.new (W.state world.new) (λ s. (s, code))) }
+    ensures ok { IfOk result (λ value. Reaches scope.old (W.state world.old) (section_done M.meaning stack.now dict.now section statements.now) scope.new (W.state world.new) (λ s. (s, value))) }
+    ensures in_time { OnOk result (IsInTime scope.new.moment) }
     ensures memory { OnErr result (Stops scope.old (W.state world.old) (λ s. (section_done M.meaning stack.now dict.now section statements.now s).0.effects) (W.state world.new)) }
 {
     scope.last = None;
     scope.loops = [None, None, None, None, None, None, None, None];
-    let mut leading = None;
-    for statement in statements {
-        let child = run_statement(
-            alloc, stack, section, statement, scope, world, dict, observer,
-        )?;
-        if let Some(code) = ended_by(child) {
-            return Ok(code);
-        }
-        leading = Some(heavier_of(leading, child));
-    }
-    Ok(match leading {
-        Some(child) => child.code,
+    let so_far = run_members(
+        alloc,
+        stack,
+        section,
+        GroupKind::Plain,
+        None,
+        statements,
+        scope,
+        world,
+        dict,
+        observer,
+    )?;
+    Ok(match end_of(so_far).code {
+        Some(code) => code,
         None => default_code(section),
     })
 }

@@ -32,10 +32,11 @@ impl Model for Table {
     ghost use Rattle.std.specs.Coded.{codes};
     ghost use Rattle.unlang_xlat.specs.contracts.part.Part as part;
     ghost use Rattle.unlang_tree.specs.declared.policies.ServerTree.{ServerTree};
+    ghost use Rattle.unlang_tree.specs.contracts.statement.StatementKind as kind;
 
     ghost Value = { List ServerTree };
 
-    ghost coded = { Prim.hlevel (codes, part.the_row.coded) };
+    ghost coded = { Prim.hlevel (codes, part.the_row.coded, kind.the_row.coded) };
 
     ghost view = { λ t. t.policies };
 }
@@ -44,9 +45,8 @@ impl Model for Table {
 pub fn compile(_alloc: Global, policies: &Policies) -> Result<Table, NoMemory>
     ensures { IfOk result (λ table. table ≡ policies.now) }
 {
-    Ok(Table {
-        policies: policies.try_clone()?,
-    })
+    let policies = policies.try_clone()?;
+    Ok(Table { policies })
 }
 
 /// A place as a number of 32 bits.

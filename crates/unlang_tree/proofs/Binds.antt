@@ -1,5 +1,5 @@
 -- What an answer that is a value says of the steps that gave it.
-use Rattle.std.proofs.Common.{◌≡◌, ℕ, Bool, true, false, cond, List, [], ◌∷◌, ◌++◌, Result, Ok, Err, ◌⊎◌, inl, inr, refl, sym, ap, subst}
+use Rattle.std.proofs.Common.{◌≡◌, Bool, true, false, cond, List, [], ◌∷◌, ◌++◌, Result, Ok, Err, refl, subst}
 use Rattle.std.specs.List.{AllByRecursion}
 use Rattle.rad_conf.specs.declared.tree.Node.{Node}
 use Rattle.rad_text.specs.Read.{◌>>=◌}
@@ -25,6 +25,11 @@ past false w rest y e = e
 pub passed : {A F : Type 0} (b : Bool) (x : A) (w : F) (y : A) → cond b (Ok x) (Err w) ≡ Ok y → (b ≡ true) × (x ≡ y)
 passed true x w y e = (refl, ok_same x y e)
 passed false x w y e = err_ok y w e
+
+-- on either side of a test
+pub either : {A F P : Type 0} (b : Bool) (left right : Result A F) (y : A) → (left ≡ Ok y → P) → (right ≡ Ok y → P) → cond b left right ≡ Ok y → P
+either true left right y one other e = one e
+either false left right y one other e = other e
 
 -- what holds at first, and stays with each node, holds in the end
 module _ {S : Type 0} (step : S → Node → Result S TreeFault) (P : S → Type 0) where

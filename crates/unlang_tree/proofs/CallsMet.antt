@@ -1,5 +1,5 @@
 -- Each call that is read is of an instance that is there and has a method for its section.
-use Rattle.std.proofs.Common.{codes, ◌≡◌, ℕ, ◌-◌, Bool, true, false, not, ◌&&◌, ◌||◌, cond, if◌then◌else◌, List, [], ◌∷◌, ◌++◌, length, Option, Some, None, is_some, Result, Ok, Err, sym, ap, subst, ◌∙◌}
+use Rattle.std.proofs.Common.{codes, ◌≡◌, ℕ, zero, suc, ◌-◌, Bool, true, false, not, ◌&&◌, ◌||◌, cond, if◌then◌else◌, List, [], ◌∷◌, ◌++◌, Option, Some, None, is_some, Result, Ok, Err, sym, ap, subst, ◌∙◌}
 use Rattle.std.specs.List.{AllByRecursion, list_all}
 use Rattle.std.specs.Str.{str_eq_ignore_ascii_case}
 use Rattle.std.proofs.lemmas.Grind.{flat_map-append}
@@ -16,7 +16,14 @@ use Rattle.unlang_tree.specs.declared.fault.TreeFault.{TreeFault}
 use Rattle.unlang_tree.specs.declared.fault.TreeFault.TheVariants as fault
 use Rattle.unlang_tree.specs.declared.statement.Call.{Call}
 use Rattle.unlang_tree.specs.declared.statement.Statement.{Statement}
+use Rattle.unlang_tree.specs.declared.statement.StatementKind.{StatementKind}
 use Rattle.unlang_tree.specs.declared.statement.StatementKind.TheVariants as kinds
+use Rattle.unlang_tree.specs.declared.statement.GroupForm.{GroupForm}
+use Rattle.unlang_tree.specs.declared.statement.GroupForm.TheVariants as form
+use Rattle.unlang_tree.specs.declared.statement.Override.{Override}
+use Rattle.unlang_tree.specs.declared.update.Line.{Line}
+use Rattle.unlang_tree.specs.declared.statements.Counted.{Counted}
+use Rattle.unlang_tree.specs.declared.groups.Members.{Members}
 use Rattle.unlang_tree.specs.declared.policies.Subsection.{Subsection}
 use Rattle.unlang_tree.specs.declared.policies.SectionTree.{SectionTree}
 use Rattle.unlang_tree.specs.declared.policies.ServerTree.{ServerTree}
@@ -24,16 +31,20 @@ use Rattle.unlang_tree.specs.declared.subsections.Parts.{Parts}
 use Rattle.unlang_tree.specs.declared.servers.Known.{Known}
 use Rattle.unlang_tree.specs.Instances.{Instance, number_of}
 use Rattle.unlang_tree.specs.Sites.{Site}
-use Rattle.unlang_tree.specs.Readings.{one_more, after_each, most_statements}
-use Rattle.unlang_tree.specs.Words.{is_one_of, later_words, later_blocks}
-use Rattle.unlang_tree.specs.Calls.{is_policy, can_be_called, call_of, is_optional, called_name, is_there, call_at}
-use Rattle.unlang_tree.specs.Actions.{overrides_of}
+use Rattle.unlang_tree.specs.Readings.{one_more, one_deeper, after_each, most_statements}
+use Rattle.unlang_tree.specs.Words.{is_one_of, is_return, later_words, later_blocks}
+use Rattle.unlang_tree.specs.Calls.{kind_of, body_of, can_be_called, call_of, called_name, is_unwritten, call_at, not_open}
+use Rattle.unlang_tree.specs.Actions.{with_override, overrides_of}
 use Rattle.unlang_tree.specs.Updates.{update_at}
-use Rattle.unlang_tree.specs.Statements.{counted_call, word_at, is_pair, with_actions, call_block_at, update_statement, block_at, statement_at, and_also, with_statement, statements_of}
+use Rattle.unlang_tree.specs.Statements.{with_room, one_statement, counted_call, word_at, is_pair, with_actions, call_block_at, update_statement}
+use Rattle.unlang_tree.specs.PolicyCalls.{policy_called, braces_at}
+use Rattle.unlang_tree.specs.Depths.{Depth, at_the_top, in_a_block, in_a_policy}
+use Rattle.unlang_tree.specs.Groups.{Opener, plain_block, plain_statement, group_block, group_of, group_at, policy_call, block_or_plain, called_or_not, statement_by, and_also, with_own_action, has_own_actions, with_member, begun, opened_at, statement_at, with_statement, members_of}
 use Rattle.unlang_tree.specs.Sections.{subsection_block, with_subsection, own_name, with_call, with_run, with_written, with_one, with_part, parts_of, section_block, with_section, with_item, server_of}
 use Rattle.unlang_tree.specs.Policies.{server_block, with_server, servers_of}
-use Rattle.unlang_tree.specs.EachCall.{calls_in, calls_of, EachCall, EachCallWithin, EachCallIn, EachCallOfSections, EachCallOf, IsMet}
-use Rattle.unlang_tree.proofs.Binds.{ok_same, err_ok, bind_ok, past, passed, kept, all_both, all_wider}
+use Rattle.unlang_tree.specs.EachCall.{calls_in_kind, calls_in, calls_of, EachCall, EachCallWithin, EachCallIn, EachCallOfSections, EachCallOf, IsMet}
+use Rattle.unlang_tree.proofs.CallsWithin.{calls_by_kind, calls_of_call, calls_of_return, calls_of_update, calls_of_made}
+use Rattle.unlang_tree.proofs.Binds.{ok_same, err_ok, bind_ok, past, passed, either, kept, all_both, all_wider}
 
 module _ (holds : Section → Call → Type 0) (section : Section) where
   -- one statement more
@@ -83,11 +94,10 @@ numbered_met instances section place name (Some number) call e =
     ap (λ (c : Call). can_be_called instances section c.instance) (sym both.1) ∙ both.0
 
 module _ (site : Site) where
-  call_met : (section : Section) (place : Place) (name : List ℕ) (call : Call) → call_of site.root site.instances section place name ≡ Ok call → IsMet site.instances section call
+  call_met : (section : Section) (place : Place) (name : List ℕ) (call : Call) → call_of site.instances section place name ≡ Ok call → IsMet site.instances section call
   unfolding call_of
   call_met section place name call e =
-      numbered_met site.instances section place name (number_of site.instances name) call
-      (past (is_policy site.root section name) (fault.NotBuilt place) (numbered site.instances section place name (number_of site.instances name)) call e)
+      numbered_met site.instances section place name (number_of site.instances name) call e
 
   -- the calls of a call that may not be written
   abbrev IsMetIf : Section → Option Call → Type 0
@@ -105,107 +115,229 @@ module _ (site : Site) where
   split_met section true r call met e = subst (IsMetIf section) (ok_same None call e) tt
   split_met section false r call met e = met e
 
-  word_call_met : (section : Section) (place : Place) (word : List ℕ) (call : Option Call) → call_at site.root site.instances section place word ≡ Ok call → IsMetIf section call
+  word_call_met : (section : Section) (place : Place) (word : List ℕ) (call : Option Call) → call_at site.instances section place word ≡ Ok call → IsMetIf section call
   unfolding call_at
   word_call_met section place word call e =
-      split_met section (is_optional word && not (is_there site.root site.instances section (called_name word)))
-      (call_of site.root site.instances section place (called_name word) >>= λ one. Ok (Some one)) call
-      (some_met section (call_of site.root site.instances section place (called_name word)) call (call_met section place (called_name word))) e
+      split_met section (is_unwritten site.instances word)
+      (call_of site.instances section place (called_name word) >>= λ one. Ok (Some one)) call
+      (some_met section (call_of site.instances section place (called_name word)) call (call_met section place (called_name word))) e
 
   -- the calls of a statement that may not be written
-  abbrev AreMetIf : Section → Option Statement → Type 0
+  abbrev AreMetIf : Section → Option Counted → Type 0
   AreMetIf section None = Unit {0}
-  AreMetIf section (Some one) = AllByRecursion (IsMet site.instances section) (calls_in one)
+  AreMetIf section (Some one) = AllByRecursion (IsMet site.instances section) (calls_in one.statement)
 
-  counted_met : (section : Section) (room : ℕ) (place : Place) (call : Option Call) (statement : Option Statement) → IsMetIf section call
+  abbrev KindMet : Section → StatementKind → Type 0
+  KindMet section kind = AllByRecursion (IsMet site.instances section) (calls_in_kind kind)
+
+  kind_met : (section : Section) (left : ℕ) (place : Place) (kind : StatementKind) → KindMet section kind → AreMetIf section (Some (with_room left place kind))
+  kind_met section left place kind met =
+      subst (AllByRecursion (IsMet site.instances section)) (sym (calls_by_kind (record { place = place; kind = kind }))) met
+
+  call_kind_met : (section : Section) (call : Call) → IsMet site.instances section call → KindMet section (kinds.Call call)
+  call_kind_met section call met = subst (AllByRecursion (IsMet site.instances section)) (sym (calls_of_call call)) (met, tt)
+
+  stated_met : (section : Section) (room : ℕ) (place : Place) (kind : StatementKind) (statement : Option Counted) → KindMet section kind
+      → one_statement room place kind ≡ Ok statement → AreMetIf section statement
+  unfolding one_statement
+  stated_met section room place kind statement met e =
+      let last = bind_ok (one_more room place) (λ done. Ok (Some (with_room (room - 1) place kind))) statement e in
+      subst (AreMetIf section) (ok_same (Some (with_room (room - 1) place kind)) statement last.1.1) (kind_met section (room - 1) place kind met)
+
+  counted_met : (section : Section) (room : ℕ) (place : Place) (call : Option Call) (statement : Option Counted) → IsMetIf section call
       → counted_call room place call ≡ Ok statement → AreMetIf section statement
   unfolding counted_call
   counted_met section room place None statement met e = subst (AreMetIf section) (ok_same None statement e) tt
-  counted_met section room place (Some call) statement met e =
-      let one : Statement = record { place = place; kind = kinds.Call call } in
-      let last = bind_ok (one_more room place) (λ counted. Ok (Some one)) statement e in
-      subst (AreMetIf section) (ok_same (Some one) statement last.1.1) (met, tt)
+  counted_met section room place (Some call) statement met e = stated_met section room place (kinds.Call call) statement (call_kind_met section call met) e
 
-  word_met : (section : Section) (room : ℕ) (place : Place) (word : List ℕ) (statement : Option Statement)
+  word_met : (section : Section) (room : ℕ) (place : Place) (word : List ℕ) (statement : Option Counted)
       → word_at site section room place word ≡ Ok statement → AreMetIf section statement
   unfolding word_at
   word_met section room place word statement e =
-      let rest = past (is_one_of later_words word) (fault.NotBuilt place) (call_at site.root site.instances section place word >>= counted_call room place) statement e in
-      let one = bind_ok (call_at site.root site.instances section place word) (counted_call room place) statement rest in
-      counted_met section room place one.0 statement (word_call_met section place word one.0 one.1.0) one.1.1
+      let called : Result (Option Counted) TreeFault = call_at site.instances section place word >>= counted_call room place in
+      either (is_return word) (one_statement room place kinds.Return) (if is_one_of later_words word then Err (fault.NotBuilt place) else called) statement
+      (stated_met section room place kinds.Return statement (subst (AllByRecursion (IsMet site.instances section)) (sym calls_of_return) tt))
+      (λ behind.
+      let rest = past (is_one_of later_words word) (fault.NotBuilt place) called statement behind in
+      let one = bind_ok (call_at site.instances section place word) (counted_call room place) statement rest in
+      counted_met section room place one.0 statement (word_call_met section place word one.0 one.1.0) one.1.1)
+      e
 
-  actions_met : (section : Section) (room : ℕ) (place : Place) (pairs : List Node) (call : Option Call) (statement : Option Statement) → IsMetIf section call
-      → with_actions room place pairs call ≡ Ok statement → AreMetIf section statement
+  abbrev acting : Call → List Override → StatementKind
+  acting call overrides = kinds.Call (record { instance = call.instance; overrides = overrides })
+
+  actions_met : (section : Section) (levels room : ℕ) (place : Place) (pairs : List Node) (call : Option Call) (statement : Option Counted) → IsMetIf section call
+      → with_actions levels room place pairs call ≡ Ok statement → AreMetIf section statement
   unfolding with_actions
-  actions_met section room place pairs None statement met e = subst (AreMetIf section) (ok_same None statement e) tt
-  actions_met section room place pairs (Some call) statement met e =
-      let counted = bind_ok (one_more room place) (λ counted. overrides_of pairs >>= λ overrides. Ok (Some (record { place = place; kind = kinds.Call (record { instance = call.instance; overrides = overrides }) }))) statement e in
-      let given = bind_ok (overrides_of pairs) (λ overrides. Ok (Some (record { place = place; kind = kinds.Call (record { instance = call.instance; overrides = overrides }) }))) statement counted.1.1 in
-      subst (AreMetIf section) (ok_same (Some (record { place = place; kind = kinds.Call (record { instance = call.instance; overrides = given.0 }) })) statement given.1.1) (met, tt)
+  actions_met section levels room place pairs None statement met e = subst (AreMetIf section) (ok_same None statement e) tt
+  actions_met section levels room place pairs (Some call) statement met e =
+      let last : List Override → Result (Option Counted) TreeFault = λ overrides. Ok (Some (with_room (room - 1) place (acting call overrides))) in
+      let opened = bind_ok (one_deeper levels place) (λ opened. one_more room place >>= λ done. overrides_of pairs >>= last) statement e in
+      let counted = bind_ok (one_more room place) (λ done. overrides_of pairs >>= last) statement opened.1.1 in
+      let given = bind_ok (overrides_of pairs) last statement counted.1.1 in
+      subst (AreMetIf section) (ok_same (Some (with_room (room - 1) place (acting call given.0))) statement given.1.1)
+      (kind_met section (room - 1) place (acting call given.0) (call_kind_met section (record { instance = call.instance; overrides = given.0 }) met))
 
-  call_block_met : (section : Section) (room : ℕ) (place : Place) (kind : List ℕ) (name : Option Word) (body : List Node) (statement : Option Statement)
-      → call_block_at site section room place kind name body ≡ Ok statement → AreMetIf section statement
+  call_block_met : (section : Section) (levels room : ℕ) (place : Place) (kind : List ℕ) (name : Option Word) (body : List Node) (statement : Option Counted)
+      → call_block_at site section levels room place kind name body ≡ Ok statement → AreMetIf section statement
   unfolding call_block_at
-  call_block_met section room place kind name body statement e =
-      let rest = past (is_some name || not (list_all is_pair body)) (fault.UnknownKeyword place) (call_at site.root site.instances section place kind >>= λ call. with_actions room place body call) statement e in
-      let one = bind_ok (call_at site.root site.instances section place kind) (λ call. with_actions room place body call) statement rest in
-      actions_met section room place body one.0 statement (word_call_met section place kind one.0 one.1.0) one.1.1
+  call_block_met section levels room place kind name body statement e =
+      let rest = past (is_some name || not (list_all is_pair body)) (fault.UnknownKeyword place) (call_at site.instances section place kind >>= λ call. with_actions levels room place body call) statement e in
+      let one = bind_ok (call_at site.instances section place kind) (λ call. with_actions levels room place body call) statement rest in
+      actions_met section levels room place body one.0 statement (word_call_met section place kind one.0 one.1.0) one.1.1
 
-  update_met : (section : Section) (room : ℕ) (place : Place) (name : Option Word) (body : List Node) (statement : Option Statement)
-      → update_statement site room place name body ≡ Ok statement → AreMetIf section statement
-  update_met section room place name body statement e =
-      let one = bind_ok (update_at site.dict room place name body) (λ lines. Ok (Some (record { place = place; kind = kinds.Update lines }))) statement e in
-      subst (AreMetIf section) (ok_same (Some (record { place = place; kind = kinds.Update one.0 })) statement one.1.1) tt
+  update_met : (section : Section) (levels room : ℕ) (place : Place) (name : Option Word) (body : List Node) (statement : Option Counted)
+      → update_statement site levels room place name body ≡ Ok statement → AreMetIf section statement
+  unfolding update_statement
+  update_met section levels room place name body statement e =
+      let last : List Line → Result (Option Counted) TreeFault = λ lines. Ok (Some (with_room (room - 1) place (kinds.Update lines))) in
+      let one = bind_ok (update_at site.dict levels room place name body) last statement e in
+      subst (AreMetIf section) (ok_same (Some (with_room (room - 1) place (kinds.Update one.0))) statement one.1.1)
+      (kind_met section (room - 1) place (kinds.Update one.0) (subst (AllByRecursion (IsMet site.instances section)) (sym (calls_of_update one.0)) tt))
 
-  either_met : (section : Section) (b : Bool) (left right : Result (Option Statement) TreeFault) (statement : Option Statement)
-      → (left ≡ Ok statement → AreMetIf section statement) → (right ≡ Ok statement → AreMetIf section statement) → cond b left right ≡ Ok statement → AreMetIf section statement
-  either_met section true left right statement one other e = one e
-  either_met section false left right statement one other e = other e
-
-  block_met : (section : Section) (room : ℕ) (place : Place) (kind : List ℕ) (name : Option Word) (body : List Node) (statement : Option Statement)
-      → block_at site section room place kind name body ≡ Ok statement → AreMetIf section statement
-  unfolding block_at
-  block_met section room place kind name body statement e =
-      either_met section (str_eq_ignore_ascii_case kind (codes "update")) (update_statement site room place name body)
-      (if is_one_of later_blocks kind then Err (fault.NotBuilt place) else call_block_at site section room place kind name body) statement
-      (update_met section room place name body statement)
-      (λ rest. call_block_met section room place kind name body statement (past (is_one_of later_blocks kind) (fault.NotBuilt place) (call_block_at site section room place kind name body) statement rest))
+  plain_block_met : (section : Section) (levels room : ℕ) (place : Place) (kind : List ℕ) (name : Option Word) (body : List Node) (statement : Option Counted)
+      → plain_block site section levels room place kind name body ≡ Ok statement → AreMetIf section statement
+  unfolding plain_block
+  plain_block_met section levels room place kind name body statement e =
+      let called : Result (Option Counted) TreeFault = call_block_at site section levels room place kind name body in
+      either (str_eq_ignore_ascii_case kind (codes "update")) (update_statement site levels room place name body)
+      (if is_one_of later_blocks kind then Err (fault.NotBuilt place) else called) statement
+      (update_met section levels room place name body statement)
+      (λ rest. call_block_met section levels room place kind name body statement (past (is_one_of later_blocks kind) (fault.NotBuilt place) called statement rest))
       e
 
   -- a node by its item, as `out-Item` opens it
-  abbrev item_at : Section → ℕ → Node → Layer → Result (Option Statement) TreeFault
-  item_at section room node item = elim item [
+  abbrev item_by : Section → ℕ → ℕ → Node → Layer → Result (Option Counted) TreeFault
+  item_by section levels room node item = elim item [
     | level.Pair left operator right ↦ Err (fault.BadAction node.place)
     | level.Name word ↦ word_at site section room node.place word.text
-    | level.Block kind name body ↦ block_at site section room node.place kind.text name body
+    | level.Block kind name body ↦ plain_block site section levels room node.place kind.text name body
   ]
 
-  item_met : (section : Section) (room : ℕ) (node : Node) (item : Layer) (statement : Option Statement)
-      → item_at section room node item ≡ Ok statement → AreMetIf section statement
-  item_met section room node (level.Pair left operator right) statement e = err_ok statement (fault.BadAction node.place) e
-  item_met section room node (level.Name word) statement e = word_met section room node.place word.text statement e
-  item_met section room node (level.Block kind name body) statement e = block_met section room node.place kind.text name body statement e
+  item_met : (section : Section) (levels room : ℕ) (node : Node) (item : Layer) (statement : Option Counted)
+      → item_by section levels room node item ≡ Ok statement → AreMetIf section statement
+  item_met section levels room node (level.Pair left operator right) statement e = err_ok statement (fault.BadAction node.place) e
+  item_met section levels room node (level.Name word) statement e = word_met section room node.place word.text statement e
+  item_met section levels room node (level.Block kind name body) statement e = plain_block_met section levels room node.place kind.text name body statement e
 
-  statement_met : (section : Section) (room : ℕ) (node : Node) (statement : Option Statement) → statement_at site section room node ≡ Ok statement → AreMetIf section statement
-  unfolding statement_at
-  statement_met section room node statement e = item_met section room node (out-Item node.item) statement e
+  plain_met : (section : Section) (levels room : ℕ) (node : Node) (statement : Option Counted)
+      → plain_statement site section levels room node ≡ Ok statement → AreMetIf section statement
+  unfolding plain_statement
+  plain_met section levels room node statement e = item_met section levels room node (out-Item node.item) statement e
 
   abbrev AreMet : Section → List Statement → Type 0
   AreMet section statements = EachCall (IsMet site.instances) section statements
 
-  also_met : (section : Section) (statements : List Statement) (one : Option Statement) → AreMet section statements → AreMetIf section one → AreMet section (and_also statements one)
-  also_met section statements None all more = all
-  also_met section statements (Some one) all more = each_added (IsMet site.instances) section statements one all more
+  abbrev MembersMet : Section → Members → Type 0
+  MembersMet section members = AreMet section members.statements
 
-  step_met : (section : Section) (room : ℕ) (known next : List Statement) (node : Node) → AreMet section known → with_statement site section room known node ≡ Ok next → AreMet section next
+  -- a reader of what stands within statements whose calls are met
+  abbrev OpenerMet : Section → Opener → Type 0
+  OpenerMet section opener = (depth : Depth) (place : Place) (form : GroupForm) (own : List Override) (room : ℕ) (body : List Node) (members : Members)
+      → opener depth place form own room body ≡ Ok members → MembersMet section members
+
+  made_met : (section : Section) (place : Place) (form : GroupForm) (members : Members) → MembersMet section members
+      → AreMetIf section (Some (with_room members.room place (group_of form members)))
+  made_met section place form members met =
+      kind_met section members.room place (group_of form members)
+      (subst (AllByRecursion (IsMet site.instances section)) (sym (calls_of_made form members.overrides members.statements)) met)
+
+  group_met : (section : Section) (opener : Opener) (depth : Depth) (room : ℕ) (place : Place) (form : GroupForm) (body : List Node) (one : Counted) → OpenerMet section opener
+      → group_at opener depth room place form body ≡ Ok one → AreMetIf section (Some one)
+  unfolding group_at
+  group_met section opener depth room place form body one met e =
+      let last : Members → Result Counted TreeFault = λ members. Ok (with_room members.room place (group_of form members)) in
+      let read = opener (in_a_block depth) place form [] (room - 1) body in
+      let deeper = bind_ok (one_deeper depth.levels place) (λ deeper. one_more room place >>= λ done. read >>= last) one e in
+      let counted = bind_ok (one_more room place) (λ done. read >>= last) one deeper.1.1 in
+      let members = bind_ok read last one counted.1.1 in
+      subst (λ (c : Counted). AreMetIf section (Some c)) (ok_same (with_room members.0.room place (group_of form members.0)) one members.1.1)
+      (made_met section place form members.0 (met (in_a_block depth) place form [] (room - 1) body members.0 members.1.0))
+
+  policy_met : (section : Section) (opener : Opener) (depth : Depth) (room : ℕ) (node policy : Node) (one : Counted) → OpenerMet section opener
+      → policy_call opener depth room node policy ≡ Ok one → AreMetIf section (Some one)
+  unfolding policy_call
+  policy_met section opener depth room node policy one met e =
+      let place = node.place in
+      let inner = in_a_policy depth (kind_of policy) in
+      let last : Members → Result Counted TreeFault = λ members. Ok (with_room members.room place (group_of form.Policy members)) in
+      let read : List Override → Result Counted TreeFault = λ own. opener inner place form.Policy own (room - 1) (body_of policy) >>= last in
+      let fresh = bind_ok (not_open depth.entered place (kind_of policy)) (λ fresh. braces_at node depth.levels >>= λ braced. one_more room place >>= λ done. overrides_of (body_of node) >>= read) one e in
+      let braced = bind_ok (braces_at node depth.levels) (λ braced. one_more room place >>= λ done. overrides_of (body_of node) >>= read) one fresh.1.1 in
+      let counted = bind_ok (one_more room place) (λ done. overrides_of (body_of node) >>= read) one braced.1.1 in
+      let own = bind_ok (overrides_of (body_of node)) read one counted.1.1 in
+      let members = bind_ok (opener inner place form.Policy own.0 (room - 1) (body_of policy)) last one own.1.1 in
+      subst (λ (c : Counted). AreMetIf section (Some c)) (ok_same (with_room members.0.room place (group_of form.Policy members.0)) one members.1.1)
+      (made_met section place form.Policy members.0 (met inner place form.Policy own.0 (room - 1) (body_of policy) members.0 members.1.0))
+
+  some_one_met : (section : Section) (read : Result Counted TreeFault) (statement : Option Counted) → ((one : Counted) → read ≡ Ok one → AreMetIf section (Some one))
+      → (read >>= λ one. Ok (Some one)) ≡ Ok statement → AreMetIf section statement
+  some_one_met section read statement met e =
+      let one = bind_ok read (λ (one : Counted). Ok (Some one)) statement e in
+      subst (AreMetIf section) (ok_same (Some one.0) statement one.1.1) (met one.0 one.1.0)
+
+  block_or_plain_met : (section : Section) (opener : Opener) (depth : Depth) (room : ℕ) (node : Node) (block : Option (GroupForm × List Node)) (statement : Option Counted) → OpenerMet section opener
+      → block_or_plain opener site section depth room node block ≡ Ok statement → AreMetIf section statement
+  block_or_plain_met section opener depth room node None statement met e = plain_met section depth.levels room node statement e
+  block_or_plain_met section opener depth room node (Some block) statement met e =
+      some_one_met section (group_at opener depth room node.place block.0 block.1) statement
+      (λ one read. group_met section opener depth room node.place block.0 block.1 one met read) e
+
+  called_or_not_met : (section : Section) (opener : Opener) (depth : Depth) (room : ℕ) (node : Node) (policy : Option Node) (statement : Option Counted) → OpenerMet section opener
+      → called_or_not opener site section depth room node policy ≡ Ok statement → AreMetIf section statement
+  called_or_not_met section opener depth room node None statement met e = block_or_plain_met section opener depth room node (group_block node) statement met e
+  called_or_not_met section opener depth room node (Some policy) statement met e =
+      some_one_met section (policy_call opener depth room node policy) statement (λ one read. policy_met section opener depth room node policy one met read) e
+
+  within_met : (section : Section) (opener : Opener) (depth : Depth) (room : ℕ) (node : Node) (statement : Option Counted)
+      → OpenerMet section opener → statement_by opener site section depth room node ≡ Ok statement → AreMetIf section statement
+  unfolding statement_by
+  within_met section opener depth room node statement met e =
+      called_or_not_met section opener depth room node (policy_called site.root section node) statement met e
+
+  also_met : (section : Section) (members : Members) (one : Option Counted) → MembersMet section members → AreMetIf section one → MembersMet section (and_also members one)
+  also_met section members None all more = all
+  also_met section members (Some one) all more = each_added (IsMet site.instances) section members.statements one.statement all more
+
+  own_action_met : (section : Section) (known next : Members) (node : Node) → MembersMet section known → with_own_action known node ≡ Ok next → MembersMet section next
+  unfolding with_own_action
+  own_action_met section known next node all e =
+      let one = bind_ok (with_override known.overrides node) (λ overrides. Ok (record { overrides = overrides; statements = known.statements; room = known.room })) next e in
+      subst (MembersMet section) (ok_same (record { overrides = one.0; statements = known.statements; room = known.room }) next one.1.1) all
+
+  member_met : (section : Section) (opener : Opener) (depth : Depth) (kind : GroupForm) → OpenerMet section opener
+      → (known next : Members) (node : Node) → MembersMet section known → with_member opener site section depth kind known node ≡ Ok next → MembersMet section next
+  unfolding with_member
+  member_met section opener depth kind met known next node all e =
+      let read : Result (Option Counted) TreeFault = statement_by opener site section depth known.room node in
+      either (has_own_actions kind && is_pair node) (with_own_action known node) (read >>= λ one. Ok (and_also known one)) next
+      (own_action_met section known next node all)
+      (λ rest.
+      let one = bind_ok read (λ one. Ok (and_also known one)) next rest in
+      subst (MembersMet section) (ok_same (and_also known one.0) next one.1.1)
+      (also_met section known one.0 all (within_met section opener depth known.room node one.0 met one.1.0)))
+      e
+
+  opened_met : (section : Section) (within : ℕ) → OpenerMet section (opened_at site section within)
+  unfolding opened_at
+  opened_met section zero depth place kind own room body members e = err_ok members (fault.TooMany place) e
+  opened_met section (suc within) depth place kind own room body members e =
+      kept (with_member (opened_at site section within) site section depth kind) (MembersMet section)
+      (member_met section (opened_at site section within) depth kind (opened_met section within)) (begun own room) members body tt e
+
+  statement_met : (section : Section) (room : ℕ) (node : Node) (statement : Option Counted) → statement_at site section room node ≡ Ok statement → AreMetIf section statement
+  statement_met section room node statement e =
+      within_met section (opened_at site section most_statements) at_the_top room node statement (opened_met section most_statements) e
+
+  step_met : (section : Section) (known next : Members) (node : Node) → MembersMet section known → with_statement site section known node ≡ Ok next → MembersMet section next
   unfolding with_statement
-  step_met section room known next node all e =
-      let one = bind_ok (statement_at site section (room - length known) node) (λ statement. Ok (and_also known statement)) next e in
-      subst (AreMet section) (ok_same (and_also known one.0) next one.1.1) (also_met section known one.0 all (statement_met section (room - length known) node one.0 one.1.0))
+  step_met section known next node all e =
+      let one = bind_ok (statement_at site section known.room node) (λ statement. Ok (and_also known statement)) next e in
+      subst (MembersMet section) (ok_same (and_also known one.0) next one.1.1) (also_met section known one.0 all (statement_met section known.room node one.0 one.1.0))
 
-  statements_met : (section : Section) (room : ℕ) (nodes : List Node) (statements : List Statement) → statements_of site section room nodes ≡ Ok statements → AreMet section statements
-  statements_met section room nodes statements e =
-      kept (with_statement site section room) (AreMet section) (step_met section room) [] statements nodes tt e
+  members_met : (section : Section) (room : ℕ) (nodes : List Node) (members : Members) → members_of site section room nodes ≡ Ok members → MembersMet section members
+  members_met section room nodes members e =
+      kept (with_statement site section) (MembersMet section) (step_met section) (begun [] room) members nodes tt e
 
   abbrev PartsMet : Section → Parts → Type 0
   PartsMet section known = AreMet section known.statements × EachCallWithin (IsMet site.instances) section known.subsections
@@ -217,9 +349,9 @@ module _ (site : Site) where
   subsection_met : (section : Section) (known next : Parts) (name : List ℕ) (body : List Node) → PartsMet section known → with_subsection site section known name body ≡ Ok next → PartsMet section next
   unfolding with_subsection
   subsection_met section known next name body all e =
-      let one = bind_ok (statements_of site section known.room body) (λ statements. Ok (record { statements = known.statements; subsections = known.subsections ++ record { name = name; statements = statements } ∷ []; room = known.room - length statements })) next e in
-      subst (PartsMet section) (ok_same (record { statements = known.statements; subsections = known.subsections ++ record { name = name; statements = one.0 } ∷ []; room = known.room - length one.0 }) next one.1.1)
-      (all.0, sub_added section known.subsections (record { name = name; statements = one.0 }) all.1 (statements_met section known.room body one.0 one.1.0))
+      let one = bind_ok (members_of site section known.room body) (λ (members : Members). Ok (record { statements = known.statements; subsections = known.subsections ++ record { name = name; statements = members.statements } ∷ []; room = members.room })) next e in
+      subst (PartsMet section) (ok_same (record { statements = known.statements; subsections = known.subsections ++ record { name = name; statements = one.0.statements } ∷ []; room = one.0.room }) next one.1.1)
+      (all.0, sub_added section known.subsections (record { name = name; statements = one.0.statements }) all.1 (members_met section known.room body one.0 one.1.0))
 
   own_met : (section : Section) (name : Option (List ℕ)) (statement : Statement) (subs : List Subsection) → EachCallWithin (IsMet site.instances) section subs
       → AllByRecursion (IsMet site.instances section) (calls_in statement) → EachCallWithin (IsMet site.instances) section (with_call name statement subs)
@@ -227,21 +359,21 @@ module _ (site : Site) where
   own_met section (Some name) statement subs all more =
       sub_added section subs (record { name = name; statements = statement ∷ [] }) all (each_added (IsMet site.instances) section [] statement tt more)
 
-  run_met : (section : Section) (known : Parts) (statement : Statement) → PartsMet section known → AllByRecursion (IsMet site.instances section) (calls_in statement) → PartsMet section (with_run known statement)
-  run_met section known statement all more = (each_added (IsMet site.instances) section known.statements statement all.0 more, all.1)
+  run_met : (section : Section) (known : Parts) (one : Counted) → PartsMet section known → AreMetIf section (Some one) → PartsMet section (with_run known one)
+  run_met section known one all more = (each_added (IsMet site.instances) section known.statements one.statement all.0 more, all.1)
 
-  written_met : (section : Section) (node : Node) (known : Parts) (statement : Statement) → PartsMet section known → AllByRecursion (IsMet site.instances section) (calls_in statement)
-      → PartsMet section (with_written section node known statement)
-  written_met which.Authorize node known statement all more = run_met which.Authorize known statement all more
-  written_met which.Authenticate node known statement all more = (all.0, own_met which.Authenticate (own_name node) statement known.subsections all.1 more)
-  written_met which.Session node known statement all more = run_met which.Session known statement all more
-  written_met which.Preacct node known statement all more = run_met which.Preacct known statement all more
-  written_met which.Accounting node known statement all more = run_met which.Accounting known statement all more
-  written_met which.PostAuth node known statement all more = run_met which.PostAuth known statement all more
+  written_met : (section : Section) (node : Node) (known : Parts) (one : Counted) → PartsMet section known → AreMetIf section (Some one)
+      → PartsMet section (with_written section node known one)
+  written_met which.Authorize node known one all more = run_met which.Authorize known one all more
+  written_met which.Authenticate node known one all more = (all.0, own_met which.Authenticate (own_name node one.statement.kind) one.statement known.subsections all.1 more)
+  written_met which.Session node known one all more = run_met which.Session known one all more
+  written_met which.Preacct node known one all more = run_met which.Preacct known one all more
+  written_met which.Accounting node known one all more = run_met which.Accounting known one all more
+  written_met which.PostAuth node known one all more = run_met which.PostAuth known one all more
 
-  one_met : (section : Section) (node : Node) (known : Parts) (statement : Option Statement) → PartsMet section known → AreMetIf section statement → PartsMet section (with_one section node known statement)
+  one_met : (section : Section) (node : Node) (known : Parts) (one : Option Counted) → PartsMet section known → AreMetIf section one → PartsMet section (with_one section node known one)
   one_met section node known None all more = all
-  one_met section node known (Some statement) all more = written_met section node known statement all more
+  one_met section node known (Some one) all more = written_met section node known one all more
 
   abbrev part_by : Section → Parts → Node → Option (List ℕ × List Node) → Result Parts TreeFault
   part_by section known node block = elim block [

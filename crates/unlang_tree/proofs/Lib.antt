@@ -1,5 +1,9 @@
 mod InstanceLemmas
+mod CallLemmas
 mod Walks
+mod GroupLevels
 mod WrittenCalls
+mod WrittenBlocks
 mod Binds
+pub mod CallsWithin
 pub mod CallsMet

@@ -1,25 +1,44 @@
 -- What holds of each call among the statements of policies, each in the section in which it stands. This project's own.
-use Rattle.std.specs.Prelude.{◌≡◌, Bool, true, List, [], ◌∷◌}
+use Rattle.std.specs.Prelude.{◌≡◌, Bool, true, List, [], ◌∷◌, ◌++◌}
 use Rattle.std.specs.List.{AllByRecursion, flat_map}
 use Rattle.rad_words.specs.declared.sections.Section.{Section}
 use Rattle.unlang_tree.specs.declared.statement.Call.{Call}
 use Rattle.unlang_tree.specs.declared.statement.Statement.{Statement}
 use Rattle.unlang_tree.specs.declared.statement.StatementKind.{StatementKind}
-use Rattle.unlang_tree.specs.declared.statement.StatementKind.TheVariants as kinds
+use Rattle.unlang_tree.specs.declared.statement.StatementKind.TheOpen.{StatementKind-F, Group-F, Statement-F}
+use Rattle.unlang_tree.specs.declared.statement.StatementKind.TheOpen as level
+use Rattle.unlang_tree.specs.declared.statement.StatementKind.TheFolds.{fold-StatementKind, fold-Statement}
 use Rattle.unlang_tree.specs.declared.policies.Subsection.{Subsection}
 use Rattle.unlang_tree.specs.declared.policies.SectionTree.{SectionTree}
 use Rattle.unlang_tree.specs.declared.policies.ServerTree.{ServerTree}
 use Rattle.unlang_tree.specs.Instances.{Instance}
 use Rattle.unlang_tree.specs.Calls.{can_be_called}
 
--- The calls of a statement, in order.
+-- The calls of lists, one after the other.
+abbrev pub joined : List (List Call) → List Call
+joined [] = []
+joined (calls ∷ more) = calls ++ joined more
+
+-- The calls of a statement, those of the statements in it already known.
+abbrev pub kind_step : StatementKind-F (List Call) (List Call) (List Call) → List Call
+kind_step (level.Call call) = call ∷ []
+kind_step (level.Group group) = group
+kind_step level.Return = []
+kind_step (level.Update lines) = []
+
+abbrev pub group_step : Group-F (List Call) (List Call) (List Call) → List Call
+group_step group = joined group.statements
+
+abbrev pub statement_step : Statement-F (List Call) (List Call) (List Call) → List Call
+statement_step statement = statement.kind
+
+-- The calls of a statement, those of the blocks in it too, in order.
 abbrev pub calls_in_kind : StatementKind → List Call
-calls_in_kind (kinds.Call call) = call ∷ []
-calls_in_kind (kinds.Update lines) = []
+calls_in_kind = fold-StatementKind (List Call) (List Call) (List Call) kind_step group_step statement_step
 
 -- The calls of a statement with its place, in order.
 abbrev pub calls_in : Statement → List Call
-calls_in statement = calls_in_kind statement.kind
+calls_in = fold-Statement (List Call) (List Call) (List Call) kind_step group_step statement_step
 
 -- The calls of statements, in order.
 abbrev pub calls_of : List Statement → List Call

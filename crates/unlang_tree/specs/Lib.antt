@@ -6,7 +6,11 @@ pub mod Calls
 pub mod Updates
 pub mod Sites
 pub mod Statements
+pub mod PolicyCalls
+pub mod Depths
+pub mod Groups
 pub mod Sections
 pub mod Policies
 pub mod EachCall
 pub mod Written
+pub mod WrittenGroups

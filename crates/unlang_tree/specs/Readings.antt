@@ -25,6 +25,8 @@ fault_at wrong.UnknownKeyword place = fault.UnknownKeyword place
 fault_at wrong.BadAction place = fault.BadAction place
 fault_at wrong.BadUpdate place = fault.BadUpdate place
 fault_at wrong.BadExpansion place = fault.BadExpansion place
+fault_at wrong.PolicyLoop place = fault.PolicyLoop place
+fault_at wrong.TooDeep place = fault.TooDeep place
 fault_at wrong.TooMany place = fault.TooMany place
 fault_at wrong.NotBuilt place = fault.NotBuilt place
 
@@ -35,6 +37,14 @@ one_more room place = if nat_lt 0 room then Ok tt else Err (fault.TooMany place)
 -- How many statements a server has room for.
 abbrev pub most_statements : ℕ
 most_statements = 65536
+
+-- One block within the open ones, where so many more may be opened within one another.
+unfoldable pub one_deeper : ℕ → Place → Result (Unit {0}) TreeFault
+one_deeper levels place = if nat_lt 0 levels then Ok tt else Err (fault.TooDeep place)
+
+-- Blocks within one another: a block directly in a section or a subsection is the first, and 32 may be open.
+abbrev pub most_levels : ℕ
+most_levels = 32
 
 -- What is known after each of the nodes.
 unfoldable pub after_each : {S : Type 0} → (S → Node → Result S TreeFault) → S → List Node → Result S TreeFault

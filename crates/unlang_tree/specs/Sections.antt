@@ -1,6 +1,6 @@
 -- The sections of a virtual server, and the subsections of authenticate and post-auth. After the manual pages radiusd.conf(5)
 -- and unlang(5).
-use Rattle.std.specs.Prelude.{ℕ, Bool, ◌-◌, List, [], ◌∷◌, ◌++◌, length, Option, Some, None, option_map, Result, Ok, Err, codes, if◌then◌else◌}
+use Rattle.std.specs.Prelude.{ℕ, Bool, List, [], ◌∷◌, ◌++◌, Option, Some, None, option_map, Result, Ok, codes, if◌then◌else◌}
 use Rattle.std.specs.Str.{str_eq_ignore_ascii_case}
 use Rattle.rad_conf.specs.declared.tree.Node.{Node}
 use Rattle.rad_conf.specs.declared.tree.Item.{out-Item}
@@ -9,9 +9,13 @@ use Rattle.rad_words.specs.declared.sections.Section.{Section}
 use Rattle.rad_words.specs.declared.sections.Section.TheVariants as section
 use Rattle.rad_text.specs.Read.{◌>>=◌}
 use Rattle.unlang_tree.specs.declared.fault.TreeFault.{TreeFault}
+use Rattle.unlang_tree.specs.declared.statement.Group.{out-Group}
+use Rattle.unlang_tree.specs.declared.statement.GroupForm.{GroupForm}
+use Rattle.unlang_tree.specs.declared.statement.GroupForm.TheVariants as form
 use Rattle.unlang_tree.specs.declared.statement.Statement.{Statement}
+use Rattle.unlang_tree.specs.declared.statement.StatementKind.{StatementKind, out-StatementKind}
+use Rattle.unlang_tree.specs.declared.statement.StatementKind.TheOpen as opened
 use Rattle.unlang_tree.specs.declared.policies.Subsection.{Subsection}
-use Rattle.unlang_tree.specs.declared.policies.SectionTree.{SectionTree}
 use Rattle.unlang_tree.specs.declared.policies.ServerTree.{ServerTree}
 use Rattle.unlang_tree.specs.declared.subsections.Parts.{Parts}
 use Rattle.unlang_tree.specs.declared.servers.Known.{Known}
@@ -19,7 +23,8 @@ use Rattle.unlang_tree.specs.Sites.{Site}
 use Rattle.unlang_tree.specs.Readings.{most_statements, after_each}
 use Rattle.unlang_tree.specs.Words.{section_of}
 use Rattle.unlang_tree.specs.Calls.{called_name}
-use Rattle.unlang_tree.specs.Statements.{statement_at, statements_of}
+use Rattle.unlang_tree.specs.declared.statements.Counted.{Counted}
+use Rattle.unlang_tree.specs.Groups.{statement_at, members_of}
 
 -- The word that begins a subsection of a section; nothing where it has none.
 abbrev pub subsection_word : Section → List ℕ
@@ -46,19 +51,36 @@ subsection_block where_it_stands node = elim (out-Item node.item) [
 -- The subsections with one more, whose statements are these nodes.
 unfoldable pub with_subsection : Site → Section → Parts → List ℕ → List Node → Result Parts TreeFault
 with_subsection site where_it_stands known name body =
-    statements_of site where_it_stands known.room body
-    >>= λ statements. Ok (record {
+    members_of site where_it_stands known.room body
+    >>= λ members. Ok (record {
       statements = known.statements;
-      subsections = known.subsections ++ record { name = name; statements = statements } ∷ [];
-      room = known.room - length statements;
+      subsections = known.subsections ++ record { name = name; statements = members.statements } ∷ [];
+      room = members.room;
     })
 
--- The name of the subsection that a plain call directly in authenticate stands for: a call `x` is `Auth-Type x { x }`.
-abbrev pub own_name : Node → Option (List ℕ)
-own_name node = elim (out-Item node.item) [
+-- The name that an item calls, where it is a call.
+abbrev pub name_called : Node → Option (List ℕ)
+name_called node = elim (out-Item node.item) [
   | level.Pair left operator right ↦ None
   | level.Name word ↦ Some (called_name word.text)
-  | level.Block kind name body ↦ if str_eq_ignore_ascii_case kind.text (codes "update") then None else Some (called_name kind.text)
+  | level.Block kind name body ↦ Some (called_name kind.text)
+]
+
+-- A call of a policy has its name too; another block of statements stands for no subsection.
+abbrev pub policy_name : Node → GroupForm → Option (List ℕ)
+policy_name node form.Group = None
+policy_name node form.Redundant = None
+policy_name node form.LoadBalance = None
+policy_name node form.RedundantLoadBalance = None
+policy_name node form.Policy = name_called node
+
+-- The name of the subsection that a plain call directly in authenticate stands for: a call `x` is `Auth-Type x { x }`.
+abbrev pub own_name : Node → StatementKind → Option (List ℕ)
+own_name node kind = elim (out-StatementKind kind) [
+  | opened.Call call ↦ name_called node
+  | opened.Group group ↦ policy_name node (out-Group group).form
+  | opened.Return ↦ None
+  | opened.Update lines ↦ None
 ]
 
 -- The subsections with a call that stands for one. Another statement is counted, and is never run.
@@ -67,33 +89,33 @@ with_call None statement subsections = subsections
 with_call (Some name) statement subsections = subsections ++ record { name = name; statements = statement ∷ [] } ∷ []
 
 -- The parts with a statement that runs with the section.
-abbrev pub with_run : Parts → Statement → Parts
-with_run known statement = record { statements = known.statements ++ statement ∷ []; subsections = known.subsections; room = known.room - 1 }
+abbrev pub with_run : Parts → Counted → Parts
+with_run known one = record { statements = known.statements ++ one.statement ∷ []; subsections = known.subsections; room = one.room }
 
 -- The parts with a statement directly in authenticate.
-abbrev pub with_own : Node → Parts → Statement → Parts
-with_own node known statement =
-    record { statements = known.statements; subsections = with_call (own_name node) statement known.subsections; room = known.room - 1 }
+abbrev pub with_own : Node → Parts → Counted → Parts
+with_own node known one =
+    record { statements = known.statements; subsections = with_call (own_name node one.statement.kind) one.statement known.subsections; room = one.room }
 
 -- The parts with a statement directly in a section, where it counts as written.
-abbrev pub with_written : Section → Node → Parts → Statement → Parts
-with_written section.Authorize node known statement = with_run known statement
-with_written section.Authenticate node known statement = with_own node known statement
-with_written section.Session node known statement = with_run known statement
-with_written section.Preacct node known statement = with_run known statement
-with_written section.Accounting node known statement = with_run known statement
-with_written section.PostAuth node known statement = with_run known statement
+abbrev pub with_written : Section → Node → Parts → Counted → Parts
+with_written section.Authorize node known one = with_run known one
+with_written section.Authenticate node known one = with_own node known one
+with_written section.Session node known one = with_run known one
+with_written section.Preacct node known one = with_run known one
+with_written section.Accounting node known one = with_run known one
+with_written section.PostAuth node known one = with_run known one
 
--- The parts with a statement directly in a section, where it counts as written.
-abbrev pub with_one : Section → Node → Parts → Option Statement → Parts
+-- The parts with what a node directly in a section reads as.
+abbrev pub with_one : Section → Node → Parts → Option Counted → Parts
 with_one where_it_stands node known None = known
-with_one where_it_stands node known (Some statement) = with_written where_it_stands node known statement
+with_one where_it_stands node known (Some one) = with_written where_it_stands node known one
 
 -- What is known of a section after one more of its nodes: a subsection, or a statement.
 unfoldable pub with_part : Site → Section → Parts → Node → Result Parts TreeFault
 with_part site where_it_stands known node = elim (subsection_block where_it_stands node) [
   | Some block ↦ with_subsection site where_it_stands known block.0 block.1
-  | None ↦ statement_at site where_it_stands known.room node >>= λ statement. Ok (with_one where_it_stands node known statement)
+  | None ↦ statement_at site where_it_stands known.room node >>= λ one. Ok (with_one where_it_stands node known one)
 ]
 
 -- What is known of a section by its nodes.

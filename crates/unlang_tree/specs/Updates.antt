@@ -32,7 +32,7 @@ use Rattle.unlang_tree.specs.declared.fault.TreeFault.TheVariants as fault
 use Rattle.unlang_tree.specs.declared.update.Right.{Right}
 use Rattle.unlang_tree.specs.declared.update.Right.TheVariants as right
 use Rattle.unlang_tree.specs.declared.update.Line.{Line}
-use Rattle.unlang_tree.specs.Readings.{one_more, after_each}
+use Rattle.unlang_tree.specs.Readings.{one_more, one_deeper, after_each}
 
 -- The list of a name.
 unfoldable pub list_named : List ℕ → Option ListName
@@ -160,9 +160,11 @@ unfoldable pub list_at : Place → Option Word → Result ListName TreeFault
 list_at place None = Err (fault.BadUpdate place)
 list_at place (Some word) = found (fault.BadUpdate place) (list_named word.text)
 
--- The lines of an update, where the server has room for so many statements more.
-unfoldable pub update_at : Definitions → ℕ → Place → Option Word → List Node → Result (List Line) TreeFault
-update_at dict room place name nodes = do
+-- The lines of an update, where so many more blocks may be opened and the server has room for so many statements more. What is
+-- wrong with the block itself stands at its place, and so comes before what is wrong with its lines.
+unfoldable pub update_at : Definitions → ℕ → ℕ → Place → Option Word → List Node → Result (List Line) TreeFault
+update_at dict levels room place name nodes = do
   block ← list_at place name
+  opened ← one_deeper levels place
   counted ← one_more room place
   lines_of dict block nodes

@@ -1,10 +1,12 @@
 -- The words of policies, after the manual pages unlang(5) and radiusd.conf(5). Keywords and the names of sections are
 -- compared without regard to ASCII case.
-use Rattle.std.specs.Prelude.{ℕ, Bool, List, [], ◌∷◌, Option, Some, None, codes, if◌then◌else◌}
+use Rattle.std.specs.Prelude.{ℕ, Bool, ◌||◌, List, [], ◌∷◌, Option, Some, None, is_some, codes, if◌then◌else◌}
 use Rattle.std.specs.List.{list_any}
 use Rattle.std.specs.Str.{str_eq_ignore_ascii_case}
 use Rattle.rad_words.specs.declared.sections.Section.{Section}
 use Rattle.rad_words.specs.declared.sections.Section.TheVariants as section
+use Rattle.unlang_tree.specs.declared.statement.GroupForm.{GroupForm}
+use Rattle.unlang_tree.specs.declared.statement.GroupForm.TheVariants as form
 
 -- The name of a section.
 abbrev pub word_of : Section → List ℕ
@@ -30,12 +32,32 @@ section_of word =
 abbrev pub is_one_of : List (List ℕ) → List ℕ → Bool
 is_one_of words word = list_any (λ (one : List ℕ). str_eq_ignore_ascii_case word one) words
 
--- The statements that are a word alone and no call. They aren't built yet.
-abbrev pub later_words : List (List ℕ)
-later_words = codes "break" ∷ codes "return" ∷ []
+-- The statement `return` is this word alone.
+abbrev pub is_return : List ℕ → Bool
+is_return word = str_eq_ignore_ascii_case word (codes "return")
 
--- The blocks that are statements and no calls, beside `update`. They aren't built yet.
+-- The statements that are a word alone and no call, beside `return`. They aren't built yet.
+abbrev pub later_words : List (List ℕ)
+later_words = codes "break" ∷ []
+
+-- Whether a word alone is a statement, and so no call.
+abbrev pub is_word_statement : List ℕ → Bool
+is_word_statement word = is_return word || is_one_of later_words word
+
+-- The form of a block of statements, by its kind.
+unfoldable pub form_named : List ℕ → Option GroupForm
+form_named kind =
+    if str_eq_ignore_ascii_case kind (codes "group") then Some form.Group
+    else (if str_eq_ignore_ascii_case kind (codes "redundant") then Some form.Redundant
+    else (if str_eq_ignore_ascii_case kind (codes "load-balance") then Some form.LoadBalance
+    else (if str_eq_ignore_ascii_case kind (codes "redundant-load-balance") then Some form.RedundantLoadBalance
+    else None)))
+
+-- The blocks that are statements and no calls, beside `update`, `group` and its kin. They aren't built yet.
 abbrev pub later_blocks : List (List ℕ)
 later_blocks =
-    codes "group" ∷ codes "redundant" ∷ codes "load-balance" ∷ codes "redundant-load-balance"
-    ∷ codes "if" ∷ codes "elsif" ∷ codes "else" ∷ codes "switch" ∷ codes "foreach" ∷ codes "map" ∷ codes "parallel" ∷ []
+    codes "if" ∷ codes "elsif" ∷ codes "else" ∷ codes "switch" ∷ codes "foreach" ∷ codes "map" ∷ codes "parallel" ∷ []
+
+-- Whether a block of this kind is a statement of its own, and so no call.
+abbrev pub is_keyword : List ℕ → Bool
+is_keyword kind = str_eq_ignore_ascii_case kind (codes "update") || is_some (form_named kind) || is_one_of later_blocks kind

@@ -1,6 +1,6 @@
 -- What is written in a section, in an operator's words: calls of instances by name, one after another. After the manual page
 -- unlang(5).
-use Rattle.std.specs.Prelude.{◌≡◌, ℕ, true, false, List, [], ◌∷◌, Option, Some, None}
+use Rattle.std.specs.Prelude.{◌≡◌, ℕ, Bool, true, false, List, [], ◌∷◌, Option, Some, None}
 use Rattle.rad_conf.specs.declared.tree.Quote.TheVariants.{Bare}
 use Rattle.rad_conf.specs.declared.tree.Word.{Word}
 use Rattle.rad_conf.specs.declared.tree.Node.{Node}
@@ -9,9 +9,9 @@ use Rattle.rad_conf.specs.declared.tree.Item.TheOpen as level
 use Rattle.rad_words.specs.declared.sections.Section.{Section}
 use Rattle.unlang_tree.specs.declared.statement.Statement.{Statement}
 use Rattle.unlang_tree.specs.declared.statement.StatementKind.TheVariants as kinds
-use Rattle.unlang_tree.specs.Instances.{Instance, number_of}
-use Rattle.unlang_tree.specs.Words.{is_one_of, later_words}
-use Rattle.unlang_tree.specs.Calls.{is_policy, can_be_called, is_optional}
+use Rattle.unlang_tree.specs.Instances.{number_of}
+use Rattle.unlang_tree.specs.Words.{is_word_statement}
+use Rattle.unlang_tree.specs.Calls.{policy_for, kind_of, can_be_called, is_optional, called_name, is_entered}
 use Rattle.unlang_tree.specs.Sites.{Site}
 
 -- A node is this bare word.
@@ -24,13 +24,23 @@ IsBlock node kind name body = out-Item node.item ≡ level.Block (record { quote
 
 -- A word is free to be a name: it is no statement of its own, and no policy has it.
 pub record IsFree (site : Site) (section : Section) (word name : List ℕ) : Type 0 where
-  pub no_statement : is_one_of later_words word ≡ false
-  pub no_policy : is_policy site.root section name ≡ false
+  pub no_statement : is_word_statement word ≡ false
+  pub no_policy : policy_for site.root section name ≡ None
 
 -- An instance of this number and name has a method for the section.
 pub record IsCallable (site : Site) (section : Section) (name : List ℕ) (number : ℕ) : Type 0 where
   pub numbered : number_of site.instances name ≡ Some number
   pub method : can_be_called site.instances section number ≡ true
+
+-- A word calls this policy: it is no statement of its own, and `NAME.section` or else `NAME` is the policy's name.
+pub record CallsPolicy (site : Site) (section : Section) (node : Node) (word : List ℕ) (policy : Node) : Type 0 where
+  pub spelled : IsWord node word
+  pub no_statement : is_word_statement word ≡ false
+  pub there : policy_for site.root section (called_name word) ≡ Some policy
+
+-- A policy is among the open ones, by its name.
+abbrev pub is_open : List (List ℕ) → Node → Bool
+is_open entered policy = is_entered entered (kind_of policy)
 
 -- The call of an instance at a place, with no actions of its own.
 abbrev pub call_from : Node → ℕ → Statement

@@ -104,7 +104,11 @@ pub(crate) fn override_at(
 
 /// The actions with that of one more node. After a fault they are given up.
 #[tactic(auto, unfolding(crate::specs::Actions::with_override))]
-fn with_override(alloc: Global, overrides: &mut Overrides, node: &Node) -> Result<(), TreeFault>
+pub(crate) fn with_override(
+    alloc: Global,
+    overrides: &mut Overrides,
+    node: &Node,
+) -> Result<(), TreeFault>
     ensures { Leaves result (with_override overrides.old node.now) overrides.new }
 {
     match &node.item {

@@ -1,10 +1,12 @@
-//! Calls among the statements of a section.
+//! What the names among the statements of a section call: policies, and instances of modules.
 
 ghost use Rattle.std.specs.Prelude.{◌≡◌, ◌++◌, codes, is_some, Err, IfOk};
-ghost use Rattle.std.specs.List.{list_any};
+ghost use Rattle.std.specs.List.{list_any, find};
+ghost use Rattle.std.specs.Option.{option_copied};
 ghost use Rattle.unlang_tree.specs.Readings.{Gives};
+ghost use Rattle.unlang_tree.specs.Instances.{number_of};
 ghost use Rattle.unlang_tree.specs.Words.{word_of};
-ghost use Rattle.unlang_tree.specs.Calls.{nodes_of, is_block, has_policy, is_policy, can_be_called, call_of, is_optional, called_name, is_there, call_at};
+ghost use Rattle.unlang_tree.specs.Calls.{nodes_of, is_block, policies_with, policy_named, policy_for, kind_of, body_of, can_be_called, call_of, is_optional, called_name, call_at, is_entered, not_open};
 
 use crate::fault::TreeFault;
 use crate::instances::Instances;
@@ -52,12 +54,30 @@ fn has_block(wanted: &[u8], nodes: &[Node]) -> bool
     nodes.iter().any(|node| is_block(wanted, node))
 }
 
-/// Whether a policy of this name is written at the top of a configuration.
-fn has_policy(root: &[Node], name: &[u8]) -> bool
-    ensures { result ≡ has_policy root.now name.now }
+/// The first block of policies that has one of this name.
+fn policies_with<'a>(root: &'a [Node], name: &[u8]) -> Option<&'a Node>
+    ensures { option_copied result ≡ policies_with root.now name.now }
 {
     root.iter()
-        .any(|node| has_block(name, nodes_of(b"policy", node)))
+        .find(|node| has_block(name, nodes_of(b"policy", node)))
+}
+
+/// The first of the nodes that is a block of this kind.
+fn block_of<'a>(wanted: &[u8], nodes: &'a [Node]) -> Option<&'a Node>
+    ensures { option_copied result ≡ find (is_block wanted.now) nodes.now }
+{
+    nodes.iter().find(|node| is_block(wanted, node))
+}
+
+/// The policy of this name at the top of a configuration.
+#[tactic(auto, unfolding(crate::specs::Calls::policy_named))]
+fn policy_named<'a>(root: &'a [Node], name: &[u8]) -> Option<&'a Node>
+    ensures { option_copied result ≡ policy_named root.now name.now }
+{
+    match policies_with(root, name) {
+        None => None,
+        Some(block) => block_of(name, nodes_of(b"policy", block)),
+    }
 }
 
 /// The name of a policy for one section alone.
@@ -70,12 +90,43 @@ fn dotted(alloc: Global, name: &[u8], section: Section) -> Result<Octets, NoMemo
     Ok(Octets::from_vec(octets))
 }
 
-/// Whether a name calls a policy in a section.
-fn is_policy(alloc: Global, root: &[Node], section: Section, name: &[u8]) -> Result<bool, NoMemory>
-    ensures { IfOk result (λ is. is ≡ is_policy root.now section name.now) }
+/// The policy that a name calls in a section.
+#[tactic(auto, unfolding(crate::specs::Calls::policy_for))]
+pub(crate) fn policy_for<'a>(
+    alloc: Global,
+    root: &'a [Node],
+    section: Section,
+    name: &[u8],
+) -> Result<Option<&'a Node>, NoMemory>
+    ensures { IfOk result (λ policy. option_copied policy ≡ policy_for root.now section name.now) }
 {
     let own = dotted(alloc, name, section)?;
-    Ok(has_policy(root, own.as_slice()) || has_policy(root, name))
+    match policy_named(root, own.as_slice()) {
+        Some(policy) => Ok(Some(policy)),
+        None => Ok(policy_named(root, name)),
+    }
+}
+
+/// The name that a block is written by; none of another item.
+pub(crate) fn kind_of(node: &Node) -> &[u8]
+    ensures { result.now ≡ kind_of node.now }
+{
+    match &node.item {
+        Item::Pair(_, _, _) => &[],
+        Item::Name(_) => &[],
+        Item::Block(kind, _, _) => kind.text.as_slice(),
+    }
+}
+
+/// The nodes in a block; none of another item.
+pub(crate) fn body_of(node: &Node) -> &[Node]
+    ensures { result.now ≡ body_of node.now }
+{
+    match &node.item {
+        Item::Pair(_, _, _) => &[],
+        Item::Name(_) => &[],
+        Item::Block(_, _, body) => body.as_slice(),
+    }
 }
 
 /// Whether the instance of a number can be called in a section.
@@ -97,21 +148,17 @@ fn unknown(alloc: Global, place: &Place, name: &[u8]) -> Result<Call, TreeFault>
     Err(TreeFault::UnknownModule(place, name))
 }
 
-/// The call of a name.
+/// The call of an instance by its name.
 #[tactic(auto, unfolding(crate::specs::Calls::call_of))]
 fn call_of(
     alloc: Global,
-    root: &[Node],
     instances: &Instances,
     section: Section,
     place: &Place,
     name: &[u8],
 ) -> Result<Call, TreeFault>
-    ensures { Gives result (call_of root.now instances.now section place.now name.now) }
+    ensures { Gives result (call_of instances.now section place.now name.now) }
 {
-    if is_policy(alloc, root, section, name)? {
-        return refuse(alloc, place, Wrong::NotBuilt);
-    }
     let Some(instance) = instances.find(name) else {
         return unknown(alloc, place, name);
     };
@@ -142,35 +189,52 @@ pub(crate) fn called_name(word: &[u8]) -> &[u8]
     }
 }
 
-/// Whether there is a policy or an instance of this name.
-fn is_there(
-    alloc: Global,
-    root: &[Node],
-    instances: &Instances,
-    section: Section,
-    name: &[u8],
-) -> Result<bool, NoMemory>
-    ensures { IfOk result (λ is. is ≡ is_there root.now instances.now section name.now) }
+/// Whether there is an instance of this name.
+fn has_instance(instances: &Instances, name: &[u8]) -> bool
+    ensures { result ≡ is_some (number_of instances.now name.now) }
 {
-    Ok(is_policy(alloc, root, section, name)? || instances.find(name).is_some())
+    instances.find(name).is_some()
 }
 
-/// The call of a word; none where it counts as not written.
+/// The call of an instance by a word that calls no policy; none where it counts as not written.
 #[tactic(auto, unfolding(crate::specs::Calls::call_at))]
 pub(crate) fn call_at(
     alloc: Global,
-    root: &[Node],
     instances: &Instances,
     section: Section,
     place: &Place,
     word: &[u8],
 ) -> Result<Option<Call>, TreeFault>
-    ensures { Gives result (call_at root.now instances.now section place.now word.now) }
+    ensures { Gives result (call_at instances.now section place.now word.now) }
 {
     let name = called_name(word);
-    if is_optional(word) && !is_there(alloc, root, instances, section, name)? {
+    if is_optional(word) && !has_instance(instances, name) {
         return Ok(None);
     }
-    let call = call_of(alloc, root, instances, section, place, name)?;
+    let call = call_of(alloc, instances, section, place, name)?;
     Ok(Some(call))
+}
+
+/// Whether a name is among those of the open policies.
+fn is_entered(entered: &[Octets], name: &[u8]) -> bool
+    ensures { result ≡ is_entered entered.now name.now }
+{
+    entered.iter().any(|one| name == one.as_slice())
+}
+
+/// Refuses a policy that is open already.
+#[tactic(auto, unfolding(crate::specs::Calls::not_open))]
+pub(crate) fn not_open(
+    alloc: Global,
+    entered: &[Octets],
+    place: &Place,
+    name: &[u8],
+) -> Result<(), TreeFault>
+    ensures { Gives result (not_open entered.now place.now name.now) }
+{
+    if is_entered(entered, name) {
+        refuse(alloc, place, Wrong::PolicyLoop)
+    } else {
+        Ok(())
+    }
 }

@@ -1,20 +1,25 @@
 //! The laws of policies, in the words of whoever writes them. They are facts about the definitions, and the functions do
 //! nothing.
 
-ghost use Rattle.std.specs.Prelude.{◌≡◌, Bool, true, ℕ, ◌≤◌, List, [], ◌∷◌, ◌++◌, length, codes, Some, None, Ok, Err};
+ghost use Rattle.std.specs.Prelude.{◌≡◌, Bool, true, ℕ, ◌-◌, ◌<◌, ◌≤◌, List, [], ◌∷◌, ◌++◌, length, codes, Option, Some, None, Ok, Err};
 ghost use Rattle.rad_conf.specs.declared.tree.Node.{Node};
 ghost use Rattle.rad_conf.specs.declared.tree.Word.{Word};
 ghost use Rattle.rad_words.specs.declared.sections.Section.{Section as AnySection};
 ghost use Rattle.unlang_tree.specs.declared.statement.Statement.{Statement as AnyStatement};
 ghost use Rattle.unlang_tree.specs.Sites.{Site};
-ghost use Rattle.unlang_tree.specs.Statements.{statements_of};
+ghost use Rattle.unlang_tree.specs.Groups.{statement_at, statements_of};
 ghost use Rattle.unlang_tree.specs.Policies.{servers_of};
 ghost use Rattle.unlang_tree.specs.declared.statement.Call.{Call as AnyCall};
 ghost use Rattle.unlang_tree.specs.declared.policies.ServerTree.{ServerTree};
 ghost use Rattle.unlang_tree.specs.EachCall.{EachCall, EachCallOf, IsMet, Passes};
-ghost use Rattle.unlang_tree.specs.Written.{IsBlock, Spell, IsUnknown};
+ghost use Rattle.unlang_tree.specs.Calls.{kind_of, body_of};
+ghost use Rattle.unlang_tree.specs.Written.{IsBlock, CallsPolicy, Spell, IsUnknown};
+ghost use Rattle.unlang_tree.specs.WrittenGroups.{Begins, group_from, SpellBlock, Around, LeadsBack};
+ghost use Rattle.unlang_tree.specs.declared.statement.GroupForm.{GroupForm as AnyForm};
+ghost use Rattle.unlang_tree.specs.declared.statement.Override.{Override as AnyOverride};
 
 use crate::fault::TreeFault;
+use crate::statement::GroupForm;
 use rad_words::Section;
 
 /// A section that is written as calls of instances by their names is read as exactly these calls, in order, each with the
@@ -40,6 +45,39 @@ pub fn a_written_site_is_read()
         → site.root ≡ server ∷ [] → IsBlock server (codes "server") (Some name) (authorize ∷ []) → IsBlock authorize (codes "authorize") None nodes
         → Spell site Section.Authorize nodes calls → length calls ≤ 65536
         → servers_of site ≡ Ok (record { name = name.text; sections = record { section = Section.Authorize; statements = calls; subsections = [] } ∷ [] } ∷ []) }
+{}
+
+/// A block that is written as `group { .. }`, or with the word of its kin, with calls of instances and policies, `return`, actions
+/// of its own and such blocks in it, no more than 31 within one another, is read as that block, with these actions and exactly
+/// these statements in order, wherever the server has room for it and them: it is one statement, and leaves so many fewer.
+pub fn a_written_group_is_read()
+    ensures { (site : Site) (section : AnySection) (room : ℕ) (node : Node) (form : AnyForm) (word : List ℕ) (name : Option Word) (body : List Node) (own : List AnyOverride) (inner : List AnyStatement) (count : ℕ)
+        → Begins form word → IsBlock node word name body → SpellBlock site section 31 [] body own inner count → count < room → room ≤ 65536
+        → statement_at site section room node ≡ Ok (Some (record { statement = group_from node form own inner; room = room - 1 - count })) }
+{}
+
+/// A word that calls a policy is read as the policy's statements, laid out where the word stands and read in the calling section:
+/// exactly these statements in order, with blocks no more than 32 within one another, and with the policies that they call
+/// laid out in turn, none of them within itself. The call is one statement, and leaves so many fewer than its own.
+pub fn a_called_policy_is_read_where_it_stands()
+    ensures { (site : Site) (section : AnySection) (room : ℕ) (node : Node) (word : List ℕ) (policy : Node) (inner : List AnyStatement) (count : ℕ)
+        → CallsPolicy site section node word policy → SpellBlock site section 32 (kind_of policy ∷ []) (body_of policy) [] inner count → count < room → room ≤ 65536
+        → statement_at site section room node ≡ Ok (Some (record { statement = group_from node GroupForm.Policy [] inner; room = room - 1 - count })) }
+{}
+
+/// A call that leads back to a policy in which it stands, through as many other policies as there are, each called by the first
+/// thing in the one before it, is the fault PolicyLoop of its section, at the place of the call that closes the ring, wherever
+/// the server has room for the calls before it.
+pub fn a_policy_that_calls_itself_is_a_loop()
+    ensures { (site : Site) (section : AnySection) (room before : ℕ) (node : Node) (last : Node)
+        → LeadsBack site section [] before node last → before ≤ room → room ≤ 65536 → statement_at site section room node ≡ Err (TreeFault.PolicyLoop last.place) }
+{}
+
+/// A block of statements around which 32 others stand within one another, each the first thing in the one before it, is the
+/// fault TooDeep of its section, at the block's own place, wherever the server has room for the others.
+pub fn the_33rd_block_is_too_deep()
+    ensures { (site : Site) (section : AnySection) (room : ℕ) (node : Node) (last : Node)
+        → Around 32 node last → 32 ≤ room → statement_at site section room node ≡ Err (TreeFault.TooDeep last.place) }
 {}
 
 /// In the policies of a configuration each call is of an instance that is there and has a method for the section in which

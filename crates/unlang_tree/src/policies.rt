@@ -51,10 +51,11 @@ impl Model for Policies {
     ghost use Rattle.std.specs.Coded.{codes};
     ghost use Rattle.unlang_xlat.specs.contracts.part.Part as part;
     ghost use Rattle.unlang_tree.specs.declared.policies.ServerTree.{ServerTree};
+    ghost use Rattle.unlang_tree.specs.contracts.statement.StatementKind as kind;
 
     ghost Value = { List ServerTree };
 
-    ghost coded = { Prim.hlevel (codes, part.the_row.coded) };
+    ghost coded = { Prim.hlevel (codes, part.the_row.coded, kind.the_row.coded) };
 
     ghost view = { λ p. arc_value p.servers };
 }

@@ -1,7 +1,7 @@
 //! Faults at their places.
 
 ghost use Rattle.std.specs.Prelude.{◌≡◌, Err};
-ghost use Rattle.unlang_tree.specs.Readings.{Gives, fault_at, one_more};
+ghost use Rattle.unlang_tree.specs.Readings.{Gives, fault_at, one_more, one_deeper};
 
 use crate::fault::TreeFault;
 use rad_outside::Place;
@@ -16,6 +16,8 @@ pub enum Wrong {
     BadAction,
     BadUpdate,
     BadExpansion,
+    PolicyLoop,
+    TooDeep,
     TooMany,
     NotBuilt,
 }
@@ -29,6 +31,8 @@ fn fault_at(wrong: Wrong, place: Place) -> TreeFault
         Wrong::BadAction => TreeFault::BadAction(place),
         Wrong::BadUpdate => TreeFault::BadUpdate(place),
         Wrong::BadExpansion => TreeFault::BadExpansion(place),
+        Wrong::PolicyLoop => TreeFault::PolicyLoop(place),
+        Wrong::TooDeep => TreeFault::TooDeep(place),
         Wrong::TooMany => TreeFault::TooMany(place),
         Wrong::NotBuilt => TreeFault::NotBuilt(place),
     }
@@ -51,5 +55,17 @@ pub(crate) fn one_more(alloc: Global, room: usize, place: &Place) -> Result<(), 
         Ok(())
     } else {
         refuse(alloc, place, Wrong::TooMany)
+    }
+}
+
+/// Refuses the 33rd block within others.
+#[tactic(auto, unfolding(crate::specs::Readings::one_deeper))]
+pub(crate) fn one_deeper(alloc: Global, levels: u32, place: &Place) -> Result<(), TreeFault>
+    ensures { Gives result (one_deeper levels place.now) }
+{
+    if levels > 0 {
+        Ok(())
+    } else {
+        refuse(alloc, place, Wrong::TooDeep)
     }
 }

@@ -24,16 +24,47 @@ pub struct Call {
     pub overrides: Overrides,
 }
 
+/// Which of its members a block of statements runs, and how.
+#[derive(Clone, Copy, Debug, PartialEq, Eq)]
+pub enum GroupForm {
+    /// `group { .. }`: all, in order.
+    Group,
+    /// `redundant { .. }`: in order, as far as the actions of such a block say.
+    Redundant,
+    /// `load-balance { .. }`: one of them.
+    LoadBalance,
+    /// `redundant-load-balance { .. }`: begun at one of them, once round, as `redundant`.
+    RedundantLoadBalance,
+    /// The call of a policy: the policy's statements, laid out where it is called, all, in order. The actions are those of
+    /// the call.
+    Policy,
+}
+
+/// A block of statements, which is judged in its parent by its own code and actions.
+#[cycle(statement)]
+#[derive(Debug, Drop)]
+pub struct Group {
+    pub form: GroupForm,
+    pub overrides: Overrides,
+    pub statements: Statements,
+}
+
 /// What a statement does.
+#[cycle(statement)]
 #[derive(Debug, Drop)]
 pub enum StatementKind {
     /// `name`, or `-name` where there is such an instance.
     Call(Call),
+    /// `group { .. }` and its kin, and the call of a policy.
+    Group(Group),
+    /// `return`: ends the section.
+    Return,
     /// `update list { lines }`
     Update(Lines),
 }
 
 /// A statement, and where it begins in the configuration.
+#[cycle(statement)]
 #[derive(Debug, Drop)]
 pub struct Statement {
     pub place: Place,

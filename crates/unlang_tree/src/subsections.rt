@@ -4,14 +4,15 @@ ghost use Rattle.std.specs.Prelude.{◌≡◌, [], OnOk};
 ghost use Rattle.std.specs.Option.{option_map, option_copied};
 ghost use Rattle.unlang_tree.specs.Readings.{Gives, Leaves};
 ghost use Rattle.unlang_tree.specs.Sites.{site_of};
-ghost use Rattle.unlang_tree.specs.Sections.{subsection_word, is_subsection, subsection_block, with_subsection, own_name, with_call, with_run, with_own, with_written, with_one, with_part, parts_of};
+ghost use Rattle.unlang_tree.specs.Sections.{subsection_word, is_subsection, subsection_block, with_subsection, name_called, policy_name, own_name, with_call, with_run, with_own, with_written, with_one, with_part, parts_of};
 
 use crate::calls::called_name;
 use crate::fault::TreeFault;
+use crate::groups::{members_of, statement_at};
 use crate::policies::{Subsection, Subsections};
 use crate::site::SiteRef;
-use crate::statement::{Statement, Statements};
-use crate::statements::{statement_at, statements_of};
+use crate::statement::{GroupForm, Statement, StatementKind, Statements};
+use crate::statements::Counted;
 use rad_conf::{Item, Node};
 use rad_outside::{NoMemory, Octets};
 use rad_words::Section;
@@ -75,27 +76,47 @@ fn with_subsection(
 ) -> Result<(), TreeFault>
     ensures { Leaves result (with_subsection (site_of site.now) section known.old name.now body.now) known.new }
 {
-    let statements = statements_of(alloc, site, section, known.room, body)?;
+    let members = members_of(alloc, site, section, known.room, body)?;
     let name = Octets::of(alloc, name)?;
-    known.room = known.room.saturating_sub(statements.len());
+    known.room = members.room;
+    let statements = members.statements;
     known.subsections.push(Subsection { name, statements })?;
     Ok(())
 }
 
-/// The name of the subsection that a plain call directly in authenticate stands for.
-fn own_name(node: &Node) -> Option<&[u8]>
-    ensures { option_copied result ≡ own_name node.now }
+/// The name that an item calls, where it is a call.
+fn name_called(node: &Node) -> Option<&[u8]>
+    ensures { option_copied result ≡ name_called node.now }
 {
     match &node.item {
         Item::Pair(_, _, _) => None,
         Item::Name(word) => Some(called_name(word.text.as_slice())),
-        Item::Block(kind, _, _) => {
-            if kind.text.as_slice().eq_ignore_ascii_case(b"update") {
-                None
-            } else {
-                Some(called_name(kind.text.as_slice()))
-            }
-        }
+        Item::Block(kind, _, _) => Some(called_name(kind.text.as_slice())),
+    }
+}
+
+/// The name that the call of a policy has; another block of statements has none.
+fn policy_name(node: &Node, form: GroupForm) -> Option<&[u8]>
+    ensures { option_copied result ≡ policy_name node.now form }
+{
+    match form {
+        GroupForm::Group
+        | GroupForm::Redundant
+        | GroupForm::LoadBalance
+        | GroupForm::RedundantLoadBalance => None,
+        GroupForm::Policy => name_called(node),
+    }
+}
+
+/// The name of the subsection that a plain call directly in authenticate stands for.
+fn own_name<'a>(node: &'a Node, kind: &StatementKind) -> Option<&'a [u8]>
+    ensures { option_copied result ≡ own_name node.now kind.now }
+{
+    match kind {
+        StatementKind::Call(_) => name_called(node),
+        StatementKind::Group(group) => policy_name(node, group.form),
+        StatementKind::Return => None,
+        StatementKind::Update(_) => None,
     }
 }
 
@@ -119,25 +140,22 @@ fn push_call(
 }
 
 /// The parts with a statement that runs with the section.
-fn with_run(known: &mut Parts, statement: Statement) -> Result<(), NoMemory>
-    ensures { OnOk result (known.new ≡ with_run known.old statement) }
+fn with_run(known: &mut Parts, one: Counted) -> Result<(), NoMemory>
+    ensures { OnOk result (known.new ≡ with_run known.old one) }
 {
-    known.room = known.room.saturating_sub(1);
-    known.statements.push(statement)?;
+    known.room = one.room;
+    known.statements.push(one.statement)?;
     Ok(())
 }
 
 /// The parts with a statement directly in authenticate.
-fn with_own(
-    alloc: Global,
-    node: &Node,
-    known: &mut Parts,
-    statement: Statement,
-) -> Result<(), NoMemory>
-    ensures { OnOk result (known.new ≡ with_own node.now known.old statement) }
+fn with_own(alloc: Global, node: &Node, known: &mut Parts, one: Counted) -> Result<(), NoMemory>
+    ensures { OnOk result (known.new ≡ with_own node.now known.old one) }
 {
-    known.room = known.room.saturating_sub(1);
-    push_call(alloc, own_name(node), statement, &mut known.subsections)
+    let Counted { statement, room } = one;
+    known.room = room;
+    let name = own_name(node, &statement.kind);
+    push_call(alloc, name, statement, &mut known.subsections)
 }
 
 /// The parts with a statement directly in a section.
@@ -146,17 +164,17 @@ fn with_written(
     section: Section,
     node: &Node,
     known: &mut Parts,
-    statement: Statement,
+    one: Counted,
 ) -> Result<(), NoMemory>
-    ensures { OnOk result (known.new ≡ with_written section node.now known.old statement) }
+    ensures { OnOk result (known.new ≡ with_written section node.now known.old one) }
 {
     match section {
-        Section::Authenticate => with_own(alloc, node, known, statement),
+        Section::Authenticate => with_own(alloc, node, known, one),
         Section::Authorize
         | Section::Session
         | Section::Preacct
         | Section::Accounting
-        | Section::PostAuth => with_run(known, statement),
+        | Section::PostAuth => with_run(known, one),
     }
 }
 
@@ -166,13 +184,13 @@ fn with_one(
     section: Section,
     node: &Node,
     known: &mut Parts,
-    statement: Option<Statement>,
+    one: Option<Counted>,
 ) -> Result<(), NoMemory>
-    ensures { OnOk result (known.new ≡ with_one section node.now known.old statement) }
+    ensures { OnOk result (known.new ≡ with_one section node.now known.old one) }
 {
-    match statement {
+    match one {
         None => Ok(()),
-        Some(statement) => with_written(alloc, section, node, known, statement),
+        Some(one) => with_written(alloc, section, node, known, one),
     }
 }
 
@@ -190,8 +208,8 @@ fn with_part(
     if let Some((name, body)) = subsection_block(section, node) {
         return with_subsection(alloc, site, section, known, name, body);
     }
-    let statement = statement_at(alloc, site, section, known.room, node)?;
-    with_one(alloc, section, node, known, statement)?;
+    let one = statement_at(alloc, site, section, known.room, node)?;
+    with_one(alloc, section, node, known, one)?;
     Ok(())
 }
 

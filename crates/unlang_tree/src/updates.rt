@@ -6,7 +6,7 @@ ghost use Rattle.unlang_tree.specs.Readings.{Gives, Leaves};
 ghost use Rattle.unlang_tree.specs.Updates.{list_named, without_ampersand, begins_with, list_in, left_of, left_at, operator_of, operator_at, clears, is_count, literal_at, reference_at, expansion_at, bare_at, quoted_at, right_at, line_at, with_line, lines_of, list_at, update_at};
 
 use crate::fault::TreeFault;
-use crate::refusal::{Wrong, one_more, refuse};
+use crate::refusal::{Wrong, one_deeper, one_more, refuse};
 use crate::update::{Line, Lines, Right};
 use rad_conf::{Item, Node, Quote, Word};
 use rad_dict::Dict;
@@ -322,19 +322,21 @@ fn list_at(alloc: Global, place: &Place, name: &Option<Word>) -> Result<ListName
     }
 }
 
-/// The lines of an update, where the server has room for so many statements more.
+/// The lines of an update, where so many more blocks may be opened and the server has room for so many statements more.
 #[tactic(auto, unfolding(crate::specs::Updates::update_at))]
 pub(crate) fn update_at(
     alloc: Global,
     dict: &Dict,
+    levels: u32,
     room: usize,
     place: &Place,
     name: &Option<Word>,
     nodes: &[Node],
 ) -> Result<Lines, TreeFault>
-    ensures { Gives result (update_at dict.now room place.now name.now nodes.now) }
+    ensures { Gives result (update_at dict.now levels room place.now name.now nodes.now) }
 {
     let list = list_at(alloc, place, name)?;
+    one_deeper(alloc, levels, place)?;
     one_more(alloc, room, place)?;
     lines_of(alloc, dict, list, nodes)
 }

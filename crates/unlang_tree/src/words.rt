@@ -1,10 +1,11 @@
 //! The words of policies.
 
-ghost use Rattle.std.specs.Prelude.{◌≡◌};
+ghost use Rattle.std.specs.Prelude.{◌≡◌, codes};
 ghost use Rattle.std.specs.List.{list_any};
 ghost use Rattle.std.specs.Str.{str_eq_ignore_ascii_case};
-ghost use Rattle.unlang_tree.specs.Words.{word_of, section_of, is_one_of, later_words, later_blocks};
+ghost use Rattle.unlang_tree.specs.Words.{word_of, section_of, is_one_of, is_return, later_words, is_word_statement, form_named, later_blocks, is_keyword};
 
+use crate::statement::GroupForm;
 use rad_words::Section;
 
 /// The name of a section.
@@ -56,22 +57,47 @@ fn is_one_of(words: &[&[u8]], word: &[u8]) -> bool
     words.iter().any(|one| word.eq_ignore_ascii_case(one))
 }
 
-/// The statements that are a word alone and no call.
-const LATER_WORDS: [&[u8]; 2] = [b"break", b"return"];
+/// Whether a word alone is the statement `return`.
+pub(crate) fn is_return(word: &[u8]) -> bool
+    ensures { result ≡ is_return word.now }
+{
+    word.eq_ignore_ascii_case(b"return")
+}
 
 /// Whether a word alone is a statement that isn't built yet.
 pub(crate) fn is_later_word(word: &[u8]) -> bool
     ensures { result ≡ is_one_of later_words word.now }
 {
-    is_one_of(&LATER_WORDS, word)
+    is_one_of(&[b"break"], word)
 }
 
-/// The blocks that are statements and no calls, beside `update`.
-const LATER_BLOCKS: [&[u8]; 11] = [
-    b"group",
-    b"redundant",
-    b"load-balance",
-    b"redundant-load-balance",
+/// Whether a word alone is a statement, and so no call.
+pub(crate) fn is_word_statement(word: &[u8]) -> bool
+    ensures { result ≡ is_word_statement word.now }
+{
+    is_return(word) || is_later_word(word)
+}
+
+/// The form of a block of statements, by its kind.
+#[tactic(auto, unfolding(crate::specs::Words::form_named))]
+pub(crate) fn form_named(kind: &[u8]) -> Option<GroupForm>
+    ensures { result ≡ form_named kind.now }
+{
+    if kind.eq_ignore_ascii_case(b"group") {
+        Some(GroupForm::Group)
+    } else if kind.eq_ignore_ascii_case(b"redundant") {
+        Some(GroupForm::Redundant)
+    } else if kind.eq_ignore_ascii_case(b"load-balance") {
+        Some(GroupForm::LoadBalance)
+    } else if kind.eq_ignore_ascii_case(b"redundant-load-balance") {
+        Some(GroupForm::RedundantLoadBalance)
+    } else {
+        None
+    }
+}
+
+/// The blocks that are statements and no calls, beside `update`, `group` and its kin.
+const LATER_BLOCKS: [&[u8]; 7] = [
     b"if",
     b"elsif",
     b"else",
@@ -86,4 +112,18 @@ pub(crate) fn is_later_block(kind: &[u8]) -> bool
     ensures { result ≡ is_one_of later_blocks kind.now }
 {
     is_one_of(&LATER_BLOCKS, kind)
+}
+
+/// Whether a block of this kind is an update.
+pub(crate) fn is_update(kind: &[u8]) -> bool
+    ensures { result ≡ str_eq_ignore_ascii_case kind.now (codes "update") }
+{
+    kind.eq_ignore_ascii_case(b"update")
+}
+
+/// Whether a block of this kind is a statement of its own, and so no call.
+pub(crate) fn is_keyword(kind: &[u8]) -> bool
+    ensures { result ≡ is_keyword kind.now }
+{
+    is_update(kind) || form_named(kind).is_some() || is_later_block(kind)
 }

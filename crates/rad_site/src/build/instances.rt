@@ -1,15 +1,18 @@
 //! The instances of a site's modules as they are gathered.
 
 ghost use Rattle.std.specs.Prelude.{◌≡◌, true, false, IfOk};
+ghost use Rattle.std.specs.Arc.{arc_value};
 ghost use Rattle.rad_site.specs.Modules.{no_modules, is_taken, has_room, and_module, with_code, with_three, with_codes};
 
 use crate::build::codes::{is_code_name, name_of};
 use crate::site_module::SiteModule;
 use mod_base::{Always, Module, Stack};
+use mod_realm::Realms;
 use rad_outside::NoMemory;
 use rad_words::Code;
 use std::alloc::Global;
 use std::marker::Model;
+use std::sync::Arc;
 use unlang_tree::Instances;
 
 /// How many instances may stand whose names are no return codes'.
@@ -18,9 +21,10 @@ const MOST_OTHERS: u32 = 1015;
 /// How many instances may stand.
 const MOST: u32 = 1024;
 
-/// The instances of a site's modules, by name, and their modules, by number.
+/// The realms of a site, its instances, by name, and their modules, by number.
 #[derive(Drop)]
 pub(crate) struct Modules {
+    realms: Arc<Realms>,
     pub(crate) instances: Instances,
     pub(crate) stack: Stack<SiteModule>,
     others: u32,
@@ -28,6 +32,7 @@ pub(crate) struct Modules {
 
 impl Model for Modules {
     ghost use Rattle.std.specs.Prelude.{◌≤◌};
+    ghost use Rattle.std.specs.Arc.{arc_value};
     ghost use Rattle.rad_site.specs.Modules.{Modules, AreInStep};
     ghost use Rattle.std.specs.Coded.{codes};
     ghost use Rattle.unlang_xlat.specs.contracts.part.Part as part;
@@ -37,6 +42,7 @@ impl Model for Modules {
     ghost coded = { Prim.hlevel (codes, part.the_row.coded) };
 
     ghost view = { λ m. record {
+      realms = arc_value m.realms;
       instances = m.instances;
       stack = m.stack;
       others = m.others;
@@ -49,11 +55,12 @@ impl Model for Modules {
 }
 
 impl Modules {
-    /// No modules.
-    pub(crate) fn new(alloc: Global) -> Modules
-        ensures { result ≡ no_modules }
+    /// No modules, of a site with these realms.
+    pub(crate) fn new(alloc: Global, realms: Arc<Realms>) -> Modules
+        ensures { result ≡ no_modules (arc_value realms) }
     {
         Modules {
+            realms,
             instances: Instances::new(alloc),
             stack: Stack::new(alloc),
             others: 0,
@@ -65,6 +72,13 @@ impl Modules {
         ensures { result ≡ is_taken self.now name.now }
     {
         self.instances.find(name).is_some()
+    }
+
+    /// The site's realms.
+    pub(crate) fn realms(&self) -> &Arc<Realms>
+        ensures { arc_value result.now ≡ self.now.realms }
+    {
+        &self.realms
     }
 
     /// Whether there is room for an instance of this name, which isn't taken.
@@ -81,6 +95,7 @@ impl Modules {
         ensures { IfOk result (λ modules. modules ≡ and_module self name.now «module») }
     {
         let Modules {
+            realms,
             mut instances,
             mut stack,
             others,
@@ -96,6 +111,7 @@ impl Modules {
             others + 1
         };
         Ok(Modules {
+            realms,
             instances,
             stack,
             others,

@@ -2,7 +2,7 @@
 
 ghost use Rattle.std.specs.Prelude.{◌≡◌};
 ghost use Rattle.std.specs.Option.{option_map, option_copied};
-ghost use Rattle.rad_site.specs.Items.{is_assignment, pair_of, setting_of, is_pair_of, pair_named, nodes_of, is_block, is_section, named_block};
+ghost use Rattle.rad_site.specs.Items.{is_assignment, pair_of, setting_of, is_pair_of, pair_named, nodes_of, is_block, is_section, kind_of, named_block};
 
 use rad_conf::{Item, Node};
 
@@ -99,6 +99,17 @@ pub(crate) fn is_section(wanted: &[u8], node: &Node) -> bool
         Item::Pair(_, _, _) => false,
         Item::Name(_) => false,
         Item::Block(kind, _, _) => kind.text.as_slice().eq_ignore_ascii_case(wanted),
+    }
+}
+
+/// The kind of a block.
+pub(crate) fn kind_of(node: &Node) -> Option<&[u8]>
+    ensures { option_copied result ≡ kind_of node.now }
+{
+    match &node.item {
+        Item::Pair(_, _, _) => None,
+        Item::Name(_) => None,
+        Item::Block(kind, _, _) => Some(kind.text.as_slice()),
     }
 }
 

@@ -1,34 +1,49 @@
 //! The modules of a site.
 
-ghost use Rattle.std.specs.Prelude.{◌≡◌, false};
+ghost use Rattle.std.specs.Prelude.{◌≡◌, false, Ok, IfOk, IfErr};
+ghost use Rattle.std.specs.Arc.{arc_value};
 ghost use Rattle.std.specs.List.{find};
 ghost use Rattle.std.specs.Option.{option_map, option_copied};
 ghost use Rattle.rad_outside.specs.Telling.{Counts};
 ghost use Rattle.unlang_xlat.specs.Faults.{parsed};
-ghost use Rattle.rad_site.specs.Nodes.{Gives, after_each};
+ghost use Rattle.rad_site.specs.Nodes.{Gives, Fails, after_each};
+ghost use Rattle.rad_site.specs.RealmBlock.{realms_in};
 ghost use Rattle.rad_site.specs.Sources.{FindsIn};
-ghost use Rattle.rad_site.specs.Modules.{no_modules, is_taken};
-ghost use Rattle.rad_site.specs.ModulesBlock.{rcode_at, always_by, is_later, plain_module, key_or_refused, key_by, files_with, file_then_key, key_then_file, is_files_pair, has_key_first, files_module, is_files, module_of, and_room, with_instance, module_block, with_module, with_modules, modules_in};
+ghost use Rattle.rad_site.specs.Modules.{is_taken};
+ghost use Rattle.rad_site.specs.ModulesBlock.{rcode_at, always_by, is_later, plain_module, usual_key, key_or_refused, key_by, entries_module, files_with, file_then_key, key_then_file, is_files_pair, has_key_first, files_module, file_of, module_of, is_realm, realm_module, instance_of, and_room, with_instance, module_block, with_module, with_modules, modules_over, modules_in};
 
 use crate::build::codes::code_named;
 use crate::build::instances::Modules;
 use crate::build::item::{is_pair_of, nodes_of, pair_named, setting_of};
+use crate::build::realm_settings::{is_realm, realm_module};
+use crate::build::realms::realms_in;
 use crate::build::refusal::{refuse, refuse_setting, unknown_module};
-use crate::build::users::users_by;
+use crate::build::users::{EntryFile, users_by};
 use crate::fault::BuildFault;
 use crate::site_module::SiteModule;
 use mod_auth::{Chap, Pap};
 use mod_base::Always;
+use mod_filter::AttrFilter;
+use mod_realm::Realms;
 use mod_users::{FilesModule, Users};
 use rad_conf::{Item, Node};
 use rad_dict::Dict;
 use rad_outside::{Files, Octets, Place};
 use rad_words::Code;
 use std::alloc::Global;
+use std::sync::Arc;
 use unlang_xlat::{Xlat, XlatFault};
 
-/// The key of `files` where none is set: the user's name, without its realm where that was taken off.
-const USUAL_KEY: &[u8] = b"%{%{Stripped-User-Name}:-%{User-Name}}";
+/// The key where none is set: of `files` the user's name, without its realm where that was taken off, and of `attr_filter` the
+/// realm.
+fn usual_key(file: EntryFile) -> &'static [u8]
+    ensures { result.now ≡ usual_key file }
+{
+    match file {
+        EntryFile::Users => b"%{%{Stripped-User-Name}:-%{User-Name}}",
+        EntryFile::Filter => b"%{Realm}",
+    }
+}
 
 /// The return code of the setting `rcode = CODE`.
 fn rcode_at(node: &Node) -> Option<Code>
@@ -58,10 +73,7 @@ fn always_by(alloc: Global, place: &Place, setting: Option<&Node>) -> Result<Sit
 fn is_later(kind: &[u8]) -> bool
     ensures { result ≡ is_later kind.now }
 {
-    kind == b"realm".as_slice()
-        || kind == b"attr_filter".as_slice()
-        || kind == b"detail".as_slice()
-        || kind == b"radutmp".as_slice()
+    kind == b"detail".as_slice() || kind == b"radutmp".as_slice()
 }
 
 /// The module of a kind that reads no file.
@@ -105,14 +117,15 @@ fn key_of(alloc: Global, dict: &Dict, place: &Place, text: &[u8]) -> Result<Xlat
 #[tactic(auto, unfolding(crate::specs::ModulesBlock::key_by))]
 fn key_by(
     alloc: Global,
+    file: EntryFile,
     dict: &Dict,
     place: &Place,
     setting: Option<&Node>,
 ) -> Result<Xlat, BuildFault>
-    ensures { Gives result (key_by dict.now place.now (option_copied setting.entry)) }
+    ensures { Gives result (key_by file dict.now place.now (option_copied setting.entry)) }
 {
     let Some(node) = setting else {
-        return key_of(alloc, dict, place, USUAL_KEY);
+        return key_of(alloc, dict, place, usual_key(file));
     };
     match setting_of(node) {
         None => refuse_setting(alloc, &node.place, b"key"),
@@ -120,54 +133,67 @@ fn key_by(
     }
 }
 
-/// The module `files` of these users, and of the first setting `key`.
+/// The module of a file's entries and of a key.
+fn entries_module(file: EntryFile, users: Users, key: Xlat) -> SiteModule
+    ensures { result ≡ entries_module file users key }
+{
+    match file {
+        EntryFile::Users => SiteModule::Files(FilesModule::new(users, key)),
+        EntryFile::Filter => SiteModule::Filter(AttrFilter::new(users, key)),
+    }
+}
+
+/// The module of these entries, and of the first setting `key`.
 #[tactic(auto, unfolding(crate::specs::ModulesBlock::files_with))]
 fn files_with(
     alloc: Global,
+    file: EntryFile,
     dict: &Dict,
     place: &Place,
     setting: Option<&Node>,
     users: Users,
 ) -> Result<SiteModule, BuildFault>
-    ensures { Gives result (files_with dict.now place.now (option_copied setting.entry) users) }
+    ensures { Gives result (files_with file dict.now place.now (option_copied setting.entry) users) }
 {
-    let key = key_by(alloc, dict, place, setting)?;
-    Ok(SiteModule::Files(FilesModule::new(users, key)))
+    let key = key_by(alloc, file, dict, place, setting)?;
+    Ok(entries_module(file, users, key))
 }
 
-/// The module `files` where its file is looked at before its key.
+/// The module where its file is looked at before its key.
 fn file_then_key<F: Files>(
     alloc: Global,
+    file: EntryFile,
     files: &mut F,
     dir: &str,
     dict: &Dict,
     place: &Place,
     items: &[Node],
 ) -> Result<SiteModule, BuildFault>
-    ensures told { FindsIn dir.now (λ sources. file_then_key sources dict.now place.now items.now) result
+    ensures told { FindsIn dir.now (λ sources. file_then_key file sources dict.now place.now items.now) result
         (F.told files.old) (F.told files.new) }
     ensures faults { Counts (F.faults files.old) (F.faults files.new) (result ≡ Err BuildFault.ReadFault) }
 {
-    let users = users_by(alloc, files, dir, dict, place, items)?;
-    files_with(alloc, dict, place, pair_named(b"key", items), users)
+    let users = users_by(alloc, file, files, dir, dict, place, items)?;
+    files_with(alloc, file, dict, place, pair_named(b"key", items), users)
 }
 
-/// The module `files` where its key is looked at before its file.
+/// The module where its key is looked at before its file.
 fn key_then_file<F: Files>(
     alloc: Global,
+    file: EntryFile,
     files: &mut F,
     dir: &str,
     dict: &Dict,
     place: &Place,
     items: &[Node],
 ) -> Result<SiteModule, BuildFault>
-    ensures told { FindsIn dir.now (λ sources. key_then_file sources dict.now place.now items.now) result
+    ensures told { FindsIn dir.now (λ sources. key_then_file file sources dict.now place.now items.now) result
         (F.told files.old) (F.told files.new) }
     ensures faults { Counts (F.faults files.old) (F.faults files.new) (result ≡ Err BuildFault.ReadFault) }
 {
-    let key = key_by(alloc, dict, place, pair_named(b"key", items))?;
-    let users = users_by(alloc, files, dir, dict, place, items)?;
-    Ok(SiteModule::Files(FilesModule::new(users, key)))
+    let key = key_by(alloc, file, dict, place, pair_named(b"key", items))?;
+    let users = users_by(alloc, file, files, dir, dict, place, items)?;
+    Ok(entries_module(file, users, key))
 }
 
 /// Whether an item is a pair `key` or `filename`.
@@ -194,30 +220,37 @@ fn has_key_first(items: &[Node]) -> bool
     }
 }
 
-/// The module `files`: its settings are looked at in the order in which they stand.
+/// The module of a file of entries: its settings are looked at in the order in which they stand.
 fn files_module<F: Files>(
     alloc: Global,
+    file: EntryFile,
     files: &mut F,
     dir: &str,
     dict: &Dict,
     place: &Place,
     items: &[Node],
 ) -> Result<SiteModule, BuildFault>
-    ensures told { FindsIn dir.now (λ sources. files_module sources dict.now place.now items.now) result
+    ensures told { FindsIn dir.now (λ sources. files_module file sources dict.now place.now items.now) result
         (F.told files.old) (F.told files.new) }
     ensures faults { Counts (F.faults files.old) (F.faults files.new) (result ≡ Err BuildFault.ReadFault) }
 {
     if has_key_first(items) {
-        return key_then_file(alloc, files, dir, dict, place, items);
+        return key_then_file(alloc, file, files, dir, dict, place, items);
     }
-    file_then_key(alloc, files, dir, dict, place, items)
+    file_then_key(alloc, file, files, dir, dict, place, items)
 }
 
-/// Whether a block of this kind is of `files`.
-fn is_files(kind: &[u8]) -> bool
-    ensures { result ≡ is_files kind.now }
+/// The file of entries that a block of this kind names.
+fn file_of(kind: &[u8]) -> Option<EntryFile>
+    ensures { result ≡ file_of kind.now }
 {
-    kind == b"files".as_slice()
+    if kind == b"files".as_slice() {
+        Some(EntryFile::Users)
+    } else if kind == b"attr_filter".as_slice() {
+        Some(EntryFile::Filter)
+    } else {
+        None
+    }
 }
 
 /// The module of a block.
@@ -235,10 +268,33 @@ fn module_of<F: Files>(
         (F.told files.old) (F.told files.new) }
     ensures faults { Counts (F.faults files.old) (F.faults files.new) (result ≡ Err BuildFault.ReadFault) }
 {
-    if is_files(kind) {
-        return files_module(alloc, files, dir, dict, place, items);
+    match file_of(kind) {
+        Some(file) => files_module(alloc, file, files, dir, dict, place, items),
+        None => plain_module(alloc, place, kind, name, items),
     }
-    plain_module(alloc, place, kind, name, items)
+}
+
+/// The module of a block of a site with these realms.
+#[tactic(auto, unfolding(crate::specs::ModulesBlock::instance_of))]
+fn instance_of<F: Files>(
+    alloc: Global,
+    files: &mut F,
+    dir: &str,
+    dict: &Dict,
+    realms: &Arc<Realms>,
+    place: &Place,
+    kind: &[u8],
+    name: &[u8],
+    items: &[Node],
+) -> Result<SiteModule, BuildFault>
+    ensures told { FindsIn dir.now (λ sources. instance_of sources dict.now (arc_value realms.now) place.now kind.now name.now items.now) result
+        (F.told files.old) (F.told files.new) }
+    ensures faults { Counts (F.faults files.old) (F.faults files.new) (result ≡ Err BuildFault.ReadFault) }
+{
+    if is_realm(kind) {
+        return realm_module(alloc, realms, items);
+    }
+    module_of(alloc, files, dir, dict, place, kind, name, items)
 }
 
 /// The modules with one by this name, which isn't taken, where there is room for it.
@@ -278,7 +334,17 @@ fn with_instance<F: Files>(
     if known.is_taken(name) {
         return refuse_setting(alloc, place, name);
     }
-    let module = module_of(alloc, files, dir, dict, place, kind, name, items)?;
+    let module = instance_of(
+        alloc,
+        files,
+        dir,
+        dict,
+        known.realms(),
+        place,
+        kind,
+        name,
+        items,
+    )?;
     and_room(alloc, place, known, name, module)
 }
 
@@ -362,26 +428,55 @@ fn with_modules<F: Files>(
     with_items(alloc, files, dir, dict, known, nodes_of(b"modules", node))
 }
 
-/// The modules of all blocks `modules`.
+/// The modules, with those of all blocks `modules`.
 fn configured_in<F: Files>(
     alloc: Global,
     files: &mut F,
     dir: &str,
     dict: &Dict,
+    known: Modules,
     nodes: &[Node],
 ) -> Result<Modules, BuildFault>
-    ensures told { FindsIn dir.now (λ sources. after_each (with_modules sources dict.now) no_modules nodes.now) result
+    ensures told { FindsIn dir.now (λ sources. after_each (with_modules sources dict.now) known nodes.now) result
         (F.told files.old) (F.told files.new) }
     ensures faults { Counts (F.faults files.old) (F.faults files.new) (result ≡ Err BuildFault.ReadFault) }
 {
-    let mut known = Modules::new(alloc);
+    let mut known = known;
     for node in nodes {
         known = with_modules(alloc, files, dir, dict, known, node)?;
     }
     Ok(known)
 }
 
-/// The modules of a whole configuration: those of its blocks, and those of the return codes.
+/// The modules of a whole configuration with these realms: those of its blocks, and those of the return codes.
+fn modules_over<F: Files>(
+    alloc: Global,
+    files: &mut F,
+    dir: &str,
+    dict: &Dict,
+    realms: Arc<Realms>,
+    nodes: &[Node],
+) -> Result<Modules, BuildFault>
+    ensures told { FindsIn dir.now (λ sources. modules_over sources dict.now (arc_value realms) nodes.now) result
+        (F.told files.old) (F.told files.new) }
+    ensures faults { Counts (F.faults files.old) (F.faults files.new) (result ≡ Err BuildFault.ReadFault) }
+{
+    let none = Modules::new(alloc, realms);
+    let known = configured_in(alloc, files, dir, dict, none, nodes)?;
+    let modules = known.with_codes()?;
+    Ok(modules)
+}
+
+/// The realms of a configuration, which its modules share.
+fn shared_realms(alloc: Global, nodes: &[Node]) -> Result<Arc<Realms>, BuildFault>
+    ensures fault { IfErr result (λ e. Fails e (realms_in nodes.now)) }
+    ensures realms { IfOk result (λ realms. realms_in nodes.now ≡ Ok (arc_value realms)) }
+{
+    let realms = realms_in(alloc, nodes)?;
+    Ok(Arc::new(alloc, realms)?)
+}
+
+/// The modules of a whole configuration: its realms first, and then its modules over them.
 pub(crate) fn modules_in<F: Files>(
     alloc: Global,
     files: &mut F,
@@ -393,7 +488,6 @@ pub(crate) fn modules_in<F: Files>(
         (F.told files.old) (F.told files.new) }
     ensures faults { Counts (F.faults files.old) (F.faults files.new) (result ≡ Err BuildFault.ReadFault) }
 {
-    let known = configured_in(alloc, files, dir, dict, nodes)?;
-    let modules = known.with_codes()?;
-    Ok(modules)
+    let realms = shared_realms(alloc, nodes)?;
+    modules_over(alloc, files, dir, dict, realms, nodes)
 }

@@ -1,11 +1,12 @@
-//! The virtual servers of a configuration: their names and their listeners.
+//! The virtual servers of a configuration: their names, their sections and their listeners, with the names of the policies.
 
 ghost use Rattle.std.specs.Prelude.{◌≡◌, Ok};
+ghost use Rattle.std.specs.Option.{option_copied};
 ghost use Rattle.std.specs.Str.{bytes_eq};
 ghost use Rattle.rad_site.specs.Nodes.{Gives, after_each};
-ghost use Rattle.rad_site.specs.ServerBlocks.{has_name, is_built, and_listener, is_later, with_listen, with_item, and_name, few_enough, with_named, with_server, servers_in};
+ghost use Rattle.rad_site.specs.ServerBlocks.{has_name, is_built, and_listener, is_later, with_listen, section_of, and_section, with_other, with_part, with_item, and_name, few_enough, with_named, and_policy, with_policy, with_server, servers_in};
 
-use crate::build::item::{is_block, is_section, named_block, nodes_of};
+use crate::build::item::{is_block, is_section, kind_of, named_block, nodes_of};
 use crate::build::listen::{Bound, listener_of};
 use crate::build::refusal::{refuse, refuse_setting};
 use crate::fault::BuildFault;
@@ -24,10 +25,13 @@ pub(crate) struct Listener {
     pub(crate) at: Peer,
 }
 
-/// What is known of the servers: their names in order, and their one listener.
+/// What is known of the servers: their names in order, those of the policies, the sections of the last server, and their one
+/// listener.
 #[derive(Debug, Drop)]
 pub(crate) struct Servers {
     names: Items<Octets>,
+    policies: Items<Octets>,
+    sections: Items<Octets>,
     listener: Option<Listener>,
 }
 
@@ -36,7 +40,12 @@ impl Servers {
     pub(crate) fn into_listener(self) -> Option<Listener>
         ensures { result ≡ self.listener }
     {
-        let Servers { names: _, listener } = self;
+        let Servers {
+            names: _,
+            policies: _,
+            sections: _,
+            listener,
+        } = self;
         listener
     }
 }
@@ -81,6 +90,8 @@ fn and_listener(
     let server = Octets::of(alloc, name)?;
     Ok(Servers {
         names: known.names,
+        policies: known.policies,
+        sections: known.sections,
         listener: Some(Listener {
             server,
             at: bound.at,
@@ -92,10 +103,7 @@ fn and_listener(
 fn is_later(node: &Node) -> bool
     ensures { result ≡ is_later node.now }
 {
-    is_section(b"session", node)
-        || is_section(b"preacct", node)
-        || is_section(b"accounting", node)
-        || is_section(b"post-auth", node)
+    is_section(b"session", node) || is_section(b"preacct", node) || is_section(b"accounting", node)
 }
 
 /// The servers with the listener of a block of the server of a name.
@@ -111,6 +119,67 @@ fn with_listen(
     and_listener(alloc, known, name, &node.place, bound)
 }
 
+/// The section that an item is, by its word; none of another item.
+fn section_of(node: &Node) -> Option<&'static [u8]>
+    ensures { option_copied result ≡ section_of node.now }
+{
+    if is_section(b"authorize", node) {
+        return Some(b"authorize");
+    }
+    if is_section(b"authenticate", node) {
+        return Some(b"authenticate");
+    }
+    if is_section(b"post-auth", node) {
+        Some(b"post-auth")
+    } else {
+        None
+    }
+}
+
+/// The servers with one more section of the last server.
+#[tactic(auto, unfolding(crate::specs::ServerBlocks::and_section))]
+fn and_section(
+    alloc: Global,
+    known: Servers,
+    place: &Place,
+    word: &[u8],
+) -> Result<Servers, BuildFault>
+    ensures { Gives result (and_section known place.now word.now) }
+{
+    if has_name(word, known.sections.as_slice()) {
+        return refuse_setting(alloc, place, word);
+    }
+    let Servers {
+        names,
+        policies,
+        mut sections,
+        listener,
+    } = known;
+    sections.push(Octets::of(alloc, word)?)?;
+    Ok(Servers {
+        names,
+        policies,
+        sections,
+        listener,
+    })
+}
+
+/// The servers after one more item of the server of a name that is no section.
+fn with_other(
+    alloc: Global,
+    name: &[u8],
+    known: Servers,
+    node: &Node,
+) -> Result<Servers, BuildFault>
+    ensures { Gives result (with_other name.now known node.now) }
+{
+    if is_block(b"listen", node) {
+        with_listen(alloc, name, known, node)
+    } else {
+        Ok(known)
+    }
+}
+
 /// The servers after one more item of the server of a name.
 #[tactic(auto, unfolding(crate::specs::ServerBlocks::with_item))]
 fn with_item(alloc: Global, name: &[u8], known: Servers, node: &Node) -> Result<Servers, BuildFault>
@@ -119,10 +188,9 @@ fn with_item(alloc: Global, name: &[u8], known: Servers, node: &Node) -> Result<
     if is_later(node) {
         return refuse(alloc, &node.place);
     }
-    if is_block(b"listen", node) {
-        with_listen(alloc, name, known, node)
-    } else {
-        Ok(known)
+    match section_of(node) {
+        Some(word) => and_section(alloc, known, &node.place, word),
+        None => with_other(alloc, name, known, node),
     }
 }
 
@@ -142,16 +210,23 @@ fn with_items(
     Ok(known)
 }
 
-/// The servers with one more name.
+/// The servers with one more name, and without a section of it.
 fn and_name(alloc: Global, known: Servers, name: &[u8]) -> Result<Servers, BuildFault>
     ensures { Gives result (Ok (and_name known name.now)) }
 {
     let Servers {
         mut names,
+        policies,
+        sections: _,
         listener,
     } = known;
     names.push(Octets::of(alloc, name)?)?;
-    Ok(Servers { names, listener })
+    Ok(Servers {
+        names,
+        policies,
+        sections: Items::new(alloc),
+        listener,
+    })
 }
 
 /// The servers, where there are at most 64; else the last one is refused.
@@ -189,11 +264,64 @@ fn with_named(
     few_enough(alloc, place, name, known)
 }
 
+/// The servers, with the name of one more policy.
+#[tactic(auto, unfolding(crate::specs::ServerBlocks::and_policy))]
+fn and_policy(
+    alloc: Global,
+    known: Servers,
+    place: &Place,
+    name: &[u8],
+) -> Result<Servers, BuildFault>
+    ensures { Gives result (and_policy known place.now name.now) }
+{
+    if has_name(name, known.policies.as_slice()) {
+        return refuse_setting(alloc, place, name);
+    }
+    let Servers {
+        names,
+        mut policies,
+        sections,
+        listener,
+    } = known;
+    policies.push(Octets::of(alloc, name)?)?;
+    Ok(Servers {
+        names,
+        policies,
+        sections,
+        listener,
+    })
+}
+
+/// The same after one more item of a block `policy`.
+#[tactic(auto, unfolding(crate::specs::ServerBlocks::with_policy))]
+fn with_policy(alloc: Global, known: Servers, node: &Node) -> Result<Servers, BuildFault>
+    ensures { Gives result (with_policy known node.now) }
+{
+    let Some(name) = kind_of(node) else {
+        return Ok(known);
+    };
+    and_policy(alloc, known, &node.place, name)
+}
+
+/// The same after the items of a block `policy`.
+fn with_policies(alloc: Global, known: Servers, items: &[Node]) -> Result<Servers, BuildFault>
+    ensures { Gives result (after_each with_policy known items.now) }
+{
+    let mut known = known;
+    for item in items {
+        known = with_policy(alloc, known, item)?;
+    }
+    Ok(known)
+}
+
 /// The servers after one more item of the top.
 #[tactic(auto, unfolding(crate::specs::ServerBlocks::with_server))]
 fn with_server(alloc: Global, known: Servers, node: &Node) -> Result<Servers, BuildFault>
     ensures { Gives result (with_server known node.now) }
 {
+    if is_block(b"policy", node) {
+        return with_policies(alloc, known, nodes_of(b"policy", node));
+    }
     if !is_block(b"server", node) {
         return Ok(known);
     }
@@ -209,6 +337,8 @@ pub(crate) fn servers_in(alloc: Global, nodes: &[Node]) -> Result<Servers, Build
 {
     let mut known = Servers {
         names: Items::new(alloc),
+        policies: Items::new(alloc),
+        sections: Items::new(alloc),
         listener: None,
     };
     for node in nodes {

@@ -44,7 +44,7 @@ fn refuse_whole<T>(alloc: Global, name: &[u8]) -> Result<T, BuildFault>
 fn is_unbuilt(node: &Node) -> bool
     ensures { result ≡ is_unbuilt node.now }
 {
-    is_block(b"realm", node) || is_block(b"control", node)
+    is_block(b"control", node)
 }
 
 /// The first block at the top that isn't built.

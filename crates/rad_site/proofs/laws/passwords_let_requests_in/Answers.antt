@@ -1,6 +1,7 @@
 use Rattle.rad_site.specs.Passwords.{IsPap}
-use Rattle.rad_site.proofs.PasswordsChecked.{Knows, pap_shows, accepted_has}
+use Rattle.rad_site.proofs.PasswordsChecked.{Knows, pap_stays, pap_shows}
+use Rattle.rad_site.proofs.Accepted.{accepted_shows}
 use Rattle.rad_site.proofs.laws.passwords_let_requests_in.Goals as goal
 
 pub returns : goal.returns
-returns c policies dict server begun checks empty is = accepted_has policies dict IsPap Knows (pap_shows dict) server checks begun empty is
+returns c policies dict server begun checks empty is = accepted_shows policies dict IsPap Knows (pap_stays dict) (pap_shows dict) server checks begun empty is

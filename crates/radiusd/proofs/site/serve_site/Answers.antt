@@ -6,20 +6,20 @@ use Rattle.rad_outside.specs.Telling.{Tells}
 use Rattle.rad_core.specs.declared.entry.Entry.{Entry}
 use Rattle.rad_site.specs.declared.fault.BuildFault.{BuildFault}
 use Rattle.radiusd.specs.declared.status.Status.{Status}
-use Rattle.radiusd.specs.declared.counts.Counts.{Counts}
-use Rattle.radiusd.specs.Counting.{counts_of}
+use Rattle.rad_serve.specs.declared.counts.Counts.{Counts}
+use Rattle.rad_serve.specs.Counting.{counts_of}
 use Rattle.rad_site.specs.Site.{Site}
 use Rattle.radiusd.specs.ExitStatuses.{number_of}
-use Rattle.radiusd.specs.Told.{KitTells, GrowsBy}
+use Rattle.rad_serve.specs.Told.{KitTells, GrowsBy}
 use Rattle.radiusd.specs.Course.{Serving, IsExcused, Call, closing_lines, status_line}
 use Rattle.radiusd.specs.Lines.{listening_line, counts_line}
 use Rattle.radiusd.specs.Printing.{Prints, PrintsWhole, IsCutShort}
 use Rattle.radiusd.specs.Headline.{Headline}
 use Rattle.rad_outside.proofs.Tellings.{Tells-same}
-use Rattle.radiusd.proofs.Leavings.{unasked}
-use Rattle.radiusd.proofs.Passes.{goes_on_still}
+use Rattle.rad_serve.proofs.Leavings.{unasked}
+use Rattle.rad_serve.proofs.Passes.{goes_on_still}
 use Rattle.radiusd.proofs.Printings.{Prints-nothing, Prints-weaker, Prints-behind, finished, unserved, uninstalled, cut_unfinished, cut_followed, excused_since}
-use Rattle.radiusd.proofs.Tallies.{between, counts_apart}
+use Rattle.rad_serve.proofs.Tallies.{between, counts_apart}
 use Rattle.radiusd.proofs.Headlines.{headline_without_kit, headline_with_kit, tried_install}
 use Rattle.radiusd.proofs.site.serve_site.Goals as goal
 

@@ -4,7 +4,7 @@ use Rattle.rad_outside.specs.Telling.{Rose}
 use Rattle.radiusd.specs.declared.order.Task.TheVariants.{Check, Serve}
 use Rattle.radiusd.specs.declared.status.Status.TheVariants as status
 use Rattle.radiusd.specs.OrderSeen.{OrderSeen}
-use Rattle.radiusd.specs.Told.{KitTells, GrowsBy}
+use Rattle.rad_serve.specs.Told.{KitTells, GrowsBy}
 use Rattle.radiusd.specs.Course.{Course, Unread, Misworded, Unbuilt, Checked, Serving, IsExcused, fault_line}
 use Rattle.radiusd.specs.Lines.{usage_line, checked_line}
 use Rattle.radiusd.specs.Headline.{Headline}

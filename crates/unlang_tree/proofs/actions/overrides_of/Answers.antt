@@ -1,6 +1,6 @@
 use Rattle.std.proofs.Common.{[]}
 use Rattle.std.proofs.lemmas.Result.{err_from_is_err_and}
-use Rattle.unlang_tree.specs.Readings.{Gives, most_statements, after_each}
+use Rattle.unlang_tree.specs.Readings.{after_each}
 use Rattle.unlang_tree.specs.Actions.{with_override}
 use Rattle.unlang_tree.proofs.Walks.{goes_on, goes_wrong, is_done}
 use Rattle.unlang_tree.proofs.actions.overrides_of.Goals as goal

@@ -1,5 +1,5 @@
 use Rattle.std.proofs.Common.{◌≡◌, [], drop}
-use Rattle.unlang_tree.specs.Readings.{most_statements, after_each}
+use Rattle.unlang_tree.specs.Readings.{after_each}
 use Rattle.unlang_tree.specs.Actions.{with_override}
 use Rattle.unlang_tree.proofs.actions.overrides_of.Given as goal
 

@@ -1,6 +1,6 @@
 use Rattle.std.proofs.Common.{[]}
 use Rattle.std.proofs.lemmas.Result.{err_from_is_err_and}
-use Rattle.unlang_tree.specs.Readings.{Gives, most_statements, after_each}
+use Rattle.unlang_tree.specs.Readings.{most_statements, after_each}
 use Rattle.unlang_tree.specs.Sites.{site_of}
 use Rattle.unlang_tree.specs.Sections.{with_item}
 use Rattle.unlang_tree.proofs.Walks.{goes_on, goes_wrong, is_done}

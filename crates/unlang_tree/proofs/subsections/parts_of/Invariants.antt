@@ -1,5 +1,5 @@
 use Rattle.std.proofs.Common.{◌≡◌, [], drop}
-use Rattle.unlang_tree.specs.Readings.{most_statements, after_each}
+use Rattle.unlang_tree.specs.Readings.{after_each}
 use Rattle.unlang_tree.specs.Sites.{site_of}
 use Rattle.unlang_tree.specs.Sections.{with_part}
 use Rattle.unlang_tree.proofs.subsections.parts_of.Given as goal

@@ -14,8 +14,8 @@ unfolding users_at
 returns-in_default-clause-told g c =
     let name = c.args.name.now in
     let other : is_utf8 name ≡ false = false_from_ne_true (is_utf8 name) (λ is. c.in_default.ensures.cases.0 (IsUtf8-from_is_utf8 name is)) in
-    FindsIn-pure c.args.dir.now (λ sources. users_at sources c.args.dict.now c.args.place.now name) c.refuse_setting.result (bad_setting c.args.place.now (codes "filename")) (g.F.Files.told c.args.files.now)
-    (λ sources. ap (λ b. cond b (users_in c.args.dict.now c.args.place.now name (octets_at (file_path sources.folder name) sources.files)) (bad_setting c.args.place.now (codes "filename"))) other)
+    FindsIn-pure c.args.dir.now (λ sources. users_at c.args.file sources c.args.dict.now c.args.place.now name) c.refuse_setting.result (bad_setting c.args.place.now (codes "filename")) (g.F.Files.told c.args.files.now)
+    (λ sources. ap (λ b. cond b (users_in c.args.file c.args.dict.now c.args.place.now name (octets_at (file_path sources.folder name) sources.files)) (bad_setting c.args.place.now (codes "filename"))) other)
     c.refuse_setting.ensures
 
 pub returns-in-Bytes-clause-told : goal.returns-in-Bytes-clause-told
@@ -23,5 +23,5 @@ returns-in-Bytes-clause-told g c =
     let name = c.args.name.now in
     let path : c.as_str.result.now ≡ file_path c.args.dir.now name =
     c.as_str.ensures.value ∙ c.in_ok-path.ensures ∙ ap (file_path c.args.dir.now) c.in-Ok.ensures.cases.0 in
-    found_bytes c.args.dir.now c.args.dict.now c.args.place.now name c.as_str.result.now c.in-Bytes.octets c.users_in.result (g.F.Files.told c.args.files.now) (g.F.Files.told c.read.new.self)
+    found_bytes c.args.file c.args.dir.now c.args.dict.now c.args.place.now name c.as_str.result.now c.in-Bytes.octets c.users_in.result (g.F.Files.told c.args.files.now) (g.F.Files.told c.read.new.self)
     (is_utf8-from_IsUtf8 name c.in-Ok.ensures.cases.1) path c.in-Bytes.ensures.told (rw c.as_slice.ensures at c.users_in.ensures)

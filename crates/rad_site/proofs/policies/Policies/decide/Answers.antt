@@ -1,14 +1,8 @@
-use Rattle.rad_site.proofs.Running.{decided_now, decided_then}
+use Rattle.rad_site.proofs.PostAuth.{decided_then}
 use Rattle.rad_site.proofs.policies.Policies.decide.Goals as goal
-
-pub returns-then-goes_on : goal.returns-then-goes_on
-returns-then-goes_on g c = record {
-  ok = decided_then c.args.self.now c.args.dict.now c.args.server.now c.args.scope.now c.authorize.new.scope c.authenticate.new.scope (g.W.World.state c.args.world.now) (g.W.World.state c.authorize.new.world) (g.W.World.state c.authenticate.new.world)
-      c.in_ok-decided.decided c.authenticate.result c.if-goes_on.ensures c.in_ok-decided.ensures.ok c.authenticate.ensures.ok;
-}
 
 pub returns : goal.returns
 returns g c = record {
-  ok = decided_now c.args.self.now c.args.dict.now c.args.server.now c.args.scope.now c.authorize.new.scope (g.W.World.state c.args.world.now) (g.W.World.state c.authorize.new.world)
-      c.in_ok-decided.decided c.settled.result c.if-goes_on.ensures c.settled.ensures c.in_ok-decided.ensures.ok;
+  ok = decided_then c.args.self.now c.args.dict.now c.args.server.now c.args.scope.now c.let_in.new.scope c.behind_let_in.new.scope (g.W.World.state c.args.world.now) (g.W.World.state c.let_in.new.world) (g.W.World.state c.behind_let_in.new.world)
+      c.in_ok-verdict.verdict c.behind_let_in.result c.in_ok-verdict.ensures.ok c.behind_let_in.ensures.ok;
 }

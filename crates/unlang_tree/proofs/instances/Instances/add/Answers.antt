@@ -1,4 +1,4 @@
-use Rattle.std.proofs.Common.{◌≡◌, ◌<◌, ◌≤◌, length, is_some, Ok, Err, None, map, ◌++◌, ◌∷◌, [], sym, ap, ◌∙◌, arith}
+use Rattle.std.proofs.Common.{◌≡◌, ◌≤◌, length, is_some, Ok, Err, map, ◌++◌, ◌∷◌, [], sym, ap, ◌∙◌, arith}
 use Rattle.unlang_tree.specs.declared.fault.AddFault.TheVariants as fault
 use Rattle.unlang_tree.specs.Instances.{instance_of, number_of}
 use Rattle.unlang_tree.proofs.InstanceLemmas.{key_is_number, length_seen, inserted, due_taken, due_full, due_number}

@@ -1,4 +1,4 @@
-use Rattle.std.proofs.Common.{sym, ap, ◌∙◌}
+use Rattle.std.proofs.Common.{ap, ◌∙◌}
 use Rattle.unlang_tree.specs.Instances.{number_of}
 use Rattle.unlang_tree.proofs.InstanceLemmas.{key_is_number}
 use Rattle.unlang_tree.proofs.instances.Instances.find.Goals as goal

@@ -1,0 +1,3 @@
+pub mod Sifting
+pub mod Ruling
+pub mod Adding

@@ -1,0 +1,23 @@
+use Rattle.std.proofs.Common.{[]}
+use Rattle.std.proofs.lemmas.Result.{err_from_is_err_and}
+use Rattle.unlang_tree.specs.Readings.{after_each}
+use Rattle.unlang_tree.specs.Sites.{site_of}
+use Rattle.unlang_tree.specs.Groups.{begun, with_statement}
+use Rattle.unlang_tree.proofs.Walks.{goes_on, goes_wrong, is_done}
+use Rattle.unlang_tree.proofs.groups.members_of.Goals as goal
+
+pub returns-in_err-with_statement : goal.returns-in_err-with_statement
+returns-in_err-with_statement c =
+    let step = with_statement (site_of c.args.site.now) c.args.section in
+    let p = err_from_is_err_and c.from_residual.result c.from_residual.ensures.1 in
+    rw (p.1, p.2) (goes_wrong step c.loop-node.members c.args.nodes.now c.loop-node.node-index c.node-item.result (after_each step (begun [] c.args.room) c.args.nodes.now) c.in_err-with_statement.field-0.0 c.loop-node-test.true c.node-item.is c.in_err-with_statement.ensures c.loop-node.invariant)
+
+pub loop-node-preserved : goal.loop-node-preserved
+loop-node-preserved c =
+    let step = with_statement (site_of c.args.site.now) c.args.section in
+    goes_on step c.loop-node.members c.with_statement.new.members c.args.nodes.now c.loop-node.node-index c.node-item.result (after_each step (begun [] c.args.room) c.args.nodes.now) c.loop-node-test.true c.node-item.is c.in_ok-with_statement.ensures c.loop-node.invariant
+
+pub returns : goal.returns
+returns c =
+    let step = with_statement (site_of c.args.site.now) c.args.section in
+    is_done step c.loop-node.members c.args.nodes.now c.loop-node.node-index (after_each step (begun [] c.args.room) c.args.nodes.now) c.loop-node-test.false c.loop-node.invariant

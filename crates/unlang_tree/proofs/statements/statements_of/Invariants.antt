@@ -1,8 +1,0 @@
-use Rattle.std.proofs.Common.{◌≡◌, [], drop}
-use Rattle.unlang_tree.specs.Readings.{most_statements, after_each}
-use Rattle.unlang_tree.specs.Sites.{site_of}
-use Rattle.unlang_tree.specs.Statements.{with_statement}
-use Rattle.unlang_tree.proofs.statements.statements_of.Given as goal
-
-abbrev pub invariant-loop-node : goal.invariant-loop-node
-invariant-loop-node l = after_each (with_statement (site_of l.site) l.section l.room) l.statements (drop l.node-index l.nodes) ≡ after_each (with_statement (site_of l.site) l.section l.room) [] l.nodes
