@@ -7,6 +7,7 @@
 #![tactic(auto)]
 
 mod actions;
+mod arms;
 mod calls;
 mod depth;
 mod fault;

@@ -9,3 +9,4 @@ pub returns-in-None-clause-patterns : goal.returns-in-None-clause-patterns
 returns-in-None-clause-patterns c =
     let ready = c.in-Ok-steps_of.ensures.ready in
     rw (ap (λ (r : List Token × Option Wrong). r.0) c.in-Ok.ensures.tokens) (subst AreFit ready.same (all_fit c.in-Ok-steps_of.steps.items ready.ready))
+
