@@ -1,16 +1,18 @@
 -- The calls of a statement by its kind: those of a block are those of its statements.
 use Rattle.std.proofs.Common.{◌≡◌, List, [], ◌∷◌, ◌++◌, map, refl, sym, ap, ◌∙◌}
 use Rattle.unlang_tree.specs.declared.update.Line.{Line}
-use Rattle.unlang_tree.specs.declared.statement.Arm.{Arm, out-Arm}
+use Rattle.unlang_tree.specs.declared.statement.Arm.{Arm, out-Arm, roll-Arm, out-roll-Arm}
 use Rattle.unlang_tree.specs.declared.statement.Call.{Call}
 use Rattle.unlang_tree.specs.declared.statement.Group.{Group, out-Group, roll-Group, out-roll-Group}
 use Rattle.unlang_tree.specs.declared.statement.GroupForm.{GroupForm}
 use Rattle.unlang_tree.specs.declared.statement.Override.{Override}
 use Rattle.unlang_tree.specs.declared.statement.Statement.{Statement}
-use Rattle.unlang_tree.specs.declared.statement.StatementKind.{StatementKind}
+use Rattle.unlang_cond.specs.Trees.{Tree}
+use Rattle.std.specs.Prelude.{Option}
+use Rattle.unlang_tree.specs.declared.statement.StatementKind.{StatementKind, out-StatementKind, roll-StatementKind, roll-out-StatementKind}
 use Rattle.unlang_tree.specs.declared.statement.StatementKind.TheVariants as kinds
 use Rattle.unlang_tree.specs.declared.statement.StatementKind.TheVariants.{rolls-Call, rolls-Group, rolls-Return, rolls-Update, rolls-If}
-use Rattle.unlang_tree.specs.declared.statement.StatementKind.TheOpen.{StatementKind-F, Group-F}
+use Rattle.unlang_tree.specs.declared.statement.StatementKind.TheOpen.{StatementKind-F, Group-F, Arm-F}
 use Rattle.unlang_tree.specs.declared.statement.StatementKind.TheOpen as level
 use Rattle.unlang_tree.specs.declared.statement.StatementKind.TheFolds.{fold_out-Group, fold_out-Arm, fold_out-Statement, fold-Arm, fold-roll-StatementKind}
 use Rattle.unlang_tree.specs.EachCall.{joined, kind_step, group_step, arm_step, statement_step, calls_in_kind, calls_in, calls_of}
@@ -63,3 +65,10 @@ pub calls_of_if : (arms : List Arm) → calls_in_kind (kinds.If arms) ≡ joined
 calls_of_if arms =
     ap calls_in_kind (sym (rolls-If arms)) ∙ fold-roll-StatementKind (List Call) (List Call) (List Call) (List Call) kind_step arm_step group_step statement_step (level.If arms)
     ∙ joined_arms arms
+
+-- an `if` of one arm has the calls of that arm's statements
+pub calls_of_one_arm : (condition : Option Tree) (statements : List Statement)
+    → calls_in_kind (kinds.If (roll-Arm (record { condition = condition; statements = statements }) ∷ [])) ≡ calls_of statements ++ []
+calls_of_one_arm condition statements =
+    calls_of_if (roll-Arm (record { condition = condition; statements = statements }) ∷ [])
+    ∙ ap (λ (made : Arm-F StatementKind Arm Group Statement). calls_of made.statements ++ []) (out-roll-Arm (record { condition = condition; statements = statements }))
