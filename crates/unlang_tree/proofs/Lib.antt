@@ -1,4 +1,5 @@
 mod InstanceLemmas
+mod ArmLemmas
 mod CallLemmas
 mod Walks
 mod GroupLevels

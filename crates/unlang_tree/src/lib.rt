@@ -7,6 +7,7 @@
 #![tactic(auto)]
 
 mod actions;
+mod arms;
 mod calls;
 mod depth;
 mod fault;
@@ -37,7 +38,7 @@ pub use laws::{
 pub use mod_base::MethodSet;
 pub use policies::{Policies, SectionTree, Sections, ServerTree, Subsection, Subsections};
 pub use statement::{
-    Call, Group, GroupForm, Override, Overrides, Statement, StatementKind, Statements,
+    Arm, Arms, Call, Group, GroupForm, Override, Overrides, Statement, StatementKind, Statements,
 };
 pub use tree::Tree;
 pub use update::{Line, Lines, Right};
