@@ -1,7 +1,8 @@
 //! Source trees as text: each server as `NAME{..}`, in it each section as its name, its statements and its subsections
 //! and a semicolon. A statement is ` LINE:call NUMBER`, by the number of the instance, with `{CODE=ACTION ..}` where it has
 //! actions of its own, ` LINE:return`, ` LINE:update{..}` as `updates` says, or ` LINE:FORM(..)` for a block of statements, with its own
-//! actions before its statements; the call of a policy is such a block of the form `policy`. A subsection is ` [NAME..]` with its statements. No servers at all are `nothing`.
+//! actions before its statements; the call of a policy is such a block of the form `policy`. An `if` is ` LINE:if(..)` with its
+//! arms, parted by semicolons, each as ` asks` or ` else` and its statements. A subsection is ` [NAME..]` with its statements. No servers at all are `nothing`.
 
 use crate::updates::push_update;
 use rad_outside::NoMemory;
@@ -9,7 +10,7 @@ use rad_tables::Action;
 use rad_words::{Code, Section};
 use shared_cases::push_number;
 use std::alloc::Global;
-use unlang_tree::{GroupForm, Override, Policies, SectionTree, Statement, StatementKind};
+use unlang_tree::{Arm, GroupForm, Override, Policies, SectionTree, Statement, StatementKind};
 
 /// The text of all servers.
 pub fn policies_text(alloc: Global, policies: &Policies) -> Result<Vec<u8>, NoMemory> {
@@ -100,7 +101,46 @@ fn push_statement(alloc: Global, to: &mut Vec<u8>, statement: &Statement) -> Res
             to.push(b':')?;
             push_update(alloc, to, lines.as_slice())
         }
+        StatementKind::If(arms) => {
+            to.extend_from_slice(b":if(")?;
+            push_arms(alloc, to, arms.as_slice())?;
+            Ok(to.push(b')')?)
+        }
     }
+}
+
+/// Writes the arms of an `if`; of more than eight the first, the last and their number alone.
+#[cycle(statements)]
+fn push_arms(alloc: Global, to: &mut Vec<u8>, arms: &[Arm]) -> Result<(), NoMemory> {
+    let count = arms.len();
+    if count <= 8 {
+        let mut before: &[u8] = b"";
+        for arm in arms {
+            to.extend_from_slice(before)?;
+            push_arm(alloc, to, arm)?;
+            before = b";";
+        }
+        return Ok(());
+    }
+    if let (Some(first), Some(last)) = (arms.first(), arms.last()) {
+        push_arm(alloc, to, first)?;
+        to.extend_from_slice(b"; ..;")?;
+        push_arm(alloc, to, last)?;
+        to.extend_from_slice(b" of ")?;
+        push_number(alloc, to, count as u64)?;
+    }
+    Ok(())
+}
+
+/// Writes an arm: whether it asks, and its statements.
+#[cycle(statements)]
+fn push_arm(alloc: Global, to: &mut Vec<u8>, arm: &Arm) -> Result<(), NoMemory> {
+    let word: &[u8] = match &arm.condition {
+        Some(_) => b" asks",
+        None => b" else",
+    };
+    to.extend_from_slice(word)?;
+    push_statements(alloc, to, arm.statements.as_slice())
 }
 
 /// The word of a form of blocks.
