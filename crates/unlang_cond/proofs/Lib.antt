@@ -4,6 +4,7 @@ pub mod Located
 pub mod Meant
 pub mod Evaluated
 pub mod Refused
+pub mod Judged
 pub mod Ready
 pub mod Expanding
 pub mod WrittenWords
