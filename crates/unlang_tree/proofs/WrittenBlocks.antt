@@ -26,6 +26,8 @@ use Rattle.unlang_tree.specs.Depths.{Depth, in_a_block, in_a_policy}
 use Rattle.unlang_tree.specs.Groups.{Opener, group_block, group_of, group_at, policy_call, block_or_plain, called_or_not, statement_by, statement_at, and_also, with_own_action, has_own_actions, with_member, begun, opened_at}
 use Rattle.unlang_tree.specs.Written.{IsWord, IsBlock, CallsPolicy, is_open, call_from, Spell, nothing, by_name, by_dash, passed_over}
 use Rattle.unlang_tree.specs.WrittenGroups.{Begins, group, redundant, load_balance, redundant_load_balance, IsPair, group_from, return_from, SpellBlock, nothing_more, calls, returns, acts, nests, lays_out, Around, alone, around, LeadsBack, calls_itself, leads}
+use Rattle.unlang_tree.specs.Arms.{is_later_arm, is_last_open}
+use Rattle.unlang_tree.proofs.ArmLemmas.{word_not_later, block_not_later, not_later_stands, plain_also, also_plain}
 use Rattle.unlang_tree.proofs.GroupLevels.{some_within}
 use Rattle.unlang_tree.proofs.WrittenCalls.{next_from, word_by, return_free, name_by, optional_by, absent_by}
 
@@ -47,11 +49,21 @@ module _ (site : Site) (section : Section) where
   abbrev depth_at : ℕ → List (List ℕ) → Depth
   depth_at levels entered = record { levels = levels; entered = entered }
 
+  -- a node is no pair, and goes on with no `if`
+  abbrev IsPlain : Node → Type 0
+  IsPlain node = (is_pair node ≡ false) × (is_later_arm node ≡ false)
+
   word_no_pair : (node : Node) (word : List ℕ) → IsWord node word → is_pair node ≡ false
   word_no_pair node word e = rw (e, is_pair) refl
 
+  word_plain : (node : Node) (word : List ℕ) → IsWord node word → IsPlain node
+  word_plain node word e = (word_no_pair node word e, word_not_later node word e)
+
   block_no_pair : (node : Node) (kind : List ℕ) (name : Option Word) (body : List Node) → IsBlock node kind name body → is_pair node ≡ false
   block_no_pair node kind name body e = rw (e, is_pair) refl
+
+  block_plain : (node : Node) (kind : GroupForm) (word : List ℕ) (name : Option Word) (body : List Node) → Begins kind word → IsBlock node word name body → IsPlain node
+  block_plain node kind word name body begun_by e = (block_no_pair node word name body e, block_not_later node kind word name body begun_by e)
 
   pair_is : (node : Node) (left : Word) (operator : List ℕ) (right : Word) → IsPair node left operator right → is_pair node ≡ true
   pair_is node left operator right e = rw (e, is_pair) refl
@@ -99,10 +111,12 @@ module _ (site : Site) (section : Section) where
   no_action false b e = refl
 
   -- a statement that is no pair is added
-  stated : (within : ℕ) (depth : Depth) (kind : GroupForm) (known : Members) (node : Node) (more : Option Counted) → is_pair node ≡ false
-      → statement_in within depth known.room node ≡ Ok more → reader within depth kind known node ≡ Ok (and_also known more)
+  stated : (within : ℕ) (depth : Depth) (kind : GroupForm) (known : Members) (node : Node) (more : Option Counted) → IsPlain node
+      → statement_in within depth known.room node ≡ Ok more → reader within depth kind known node ≡ Ok (plain_also known more)
   unfolding with_member
-  stated within depth kind known node more plain e = rw (no_action (has_own_actions kind) (is_pair node) plain, e) refl
+  stated within depth kind known node more plain e =
+      rw (no_action (has_own_actions kind) (is_pair node) plain.0, not_later_stands (is_last_open known.statements) node plain.1, e)
+      (ap (λ m. Ok m) (also_plain known node more plain.1))
 
   -- an action of the block's own is added
   overridden : (overrides : List Override) (node : Node) (left : Word) (operator : List ℕ) (right : Word) (one : Override) → IsPair node left operator right
@@ -232,18 +246,18 @@ module _ (site : Site) (section : Section) where
       → Spell site section (node ∷ []) called → Reads within depth kind nodes own inner count → Reads within depth kind (node ∷ nodes) own (called ++ inner) (length called + count)
   call_reads within depth kind _ nodes _ own inner count (by_name node _ _ name number spelled plain free callable nothing) reads = λ known fits.
       behind_statement within depth kind node nodes (call_from node number) 1 own inner count known
-      (stated within depth kind known node (Some (next_from site section node number known.room)) (word_no_pair node name spelled)
+      (stated within depth kind known node (Some (next_from site section node number known.room)) (word_plain node name spelled)
       (name_by site section (inner_of within) depth known.room node name number spelled plain free callable (omega (arith, fits))))
       reads fits
   call_reads within depth kind _ nodes _ own inner count (by_dash node _ _ name number spelled free callable nothing) reads = λ known fits.
       behind_statement within depth kind node nodes (call_from node number) 1 own inner count known
-      (stated within depth kind known node (Some (next_from site section node number known.room)) (word_no_pair node (45 ∷ name) spelled)
+      (stated within depth kind known node (Some (next_from site section node number known.room)) (word_plain node (45 ∷ name) spelled)
       (optional_by site section (inner_of within) depth known.room node name number spelled free callable (omega (arith, fits))))
       reads fits
   call_reads within depth kind _ nodes _ own inner count (passed_over node _ _ name spelled free none nothing) reads = λ known fits.
       let same : count ≡ 0 + count = omega arith in
       behind_none within depth kind node nodes own inner count known
-      (stated within depth kind known node None (word_no_pair node (45 ∷ name) spelled)
+      (stated within depth kind known node None (word_plain node (45 ∷ name) spelled)
       (absent_by site section (inner_of within) depth known.room node name spelled free none))
       reads (omega (arith, fits))
       ∙ ap (λ n. Ok (members (known.overrides ++ own) (known.statements ++ inner) (known.room - n))) same
@@ -269,7 +283,7 @@ module _ (site : Site) (section : Section) where
       (block_reads within levels entered kind nodes own inner count (omega (arith, enough)) may more)
   block_reads within levels entered kind _ _ _ _ enough may (returns _ _ node nodes own inner count spelled more) = λ known fits.
       behind_statement within (depth_at levels entered) kind node nodes (return_from node) 1 own inner count known
-      (stated within (depth_at levels entered) kind known node (Some (record { statement = return_from node; room = known.room - 1 })) (word_no_pair node (codes "return") spelled)
+      (stated within (depth_at levels entered) kind known node (Some (record { statement = return_from node; room = known.room - 1 })) (word_plain node (codes "return") spelled)
       (word_by site section (inner_of within) (depth_at levels entered) known.room node (codes "return") spelled (return_free site section node spelled) ∙ returned known.room node.place (omega (arith, fits))))
       (block_reads within levels entered kind nodes own inner count (omega (arith, enough)) may more) fits
   block_reads within levels entered kind _ _ _ _ enough (inr none) (acts _ _ node nodes left operator right one own inner count spelled given more) = none_first one own none
@@ -281,14 +295,14 @@ module _ (site : Site) (section : Section) where
       ∙ ap (λ o. Ok (members o (known.statements ++ inner) (known.room - count))) same
   block_reads within _ entered kind _ _ _ _ enough may (nests levels _ node nodes inside word name body actions within_it deep own inner count begun_by spelled nested more) = λ known fits.
       behind_statement within (depth_at (suc levels) entered) kind node nodes (group_from node inside actions within_it) (suc deep) own inner count known
-      (stated within (depth_at (suc levels) entered) kind known node (Some (record { statement = group_from node inside actions within_it; room = known.room - 1 - deep })) (block_no_pair node word name body spelled)
+      (stated within (depth_at (suc levels) entered) kind known node (Some (record { statement = group_from node inside actions within_it; room = known.room - 1 - deep })) (block_plain node inside word name body begun_by spelled)
       (group_read within levels known.room entered node inside word name body actions within_it deep (omega (arith, enough)) begun_by spelled
       (block_reads (within - 1) levels entered inside body actions within_it deep (omega (arith, enough)) (inl (acting inside word begun_by)) nested) (omega (arith, fits)))
       ∙ ap (λ r. Ok (members known.overrides (known.statements ++ group_from node inside actions within_it ∷ []) r)) (omega (arith, fits)))
       (block_reads within (suc levels) entered kind nodes own inner count (omega (arith, enough)) may more) fits
   block_reads within levels entered kind _ _ _ _ enough may (lays_out _ _ node nodes word policy within_it deep own inner count called fresh nested more) = λ known fits.
       behind_statement within (depth_at levels entered) kind node nodes (group_from node form.Policy [] within_it) (suc deep) own inner count known
-      (stated within (depth_at levels entered) kind known node (Some (record { statement = group_from node form.Policy [] within_it; room = known.room - 1 - deep })) (word_no_pair node word called.spelled)
+      (stated within (depth_at levels entered) kind known node (Some (record { statement = group_from node form.Policy [] within_it; room = known.room - 1 - deep })) (word_plain node word called.spelled)
       (policy_read within levels known.room entered node word policy within_it deep (omega (arith, enough)) called fresh
       (block_reads (within - 1) levels (kind_of policy ∷ entered) form.Policy (body_of policy) [] within_it deep (omega (arith, enough)) (inr refl) nested) (omega (arith, fits)))
       ∙ ap (λ r. Ok (members known.overrides (known.statements ++ group_from node form.Policy [] within_it ∷ []) r)) (omega (arith, fits)))
@@ -310,19 +324,20 @@ module _ (site : Site) (section : Section) where
       policy_read most_statements 32 room [] node word policy inner count (omega arith) called refl
       (block_reads (most_statements - 1) 32 (kind_of policy ∷ []) form.Policy (body_of policy) [] inner count (omega (arith, fits, most)) (inr refl) spelled) fits
 
-  first_wrong : (within : ℕ) (depth : Depth) (kind : GroupForm) (known : Members) (node : Node) (nodes : List Node) (wrong : TreeFault) → is_pair node ≡ false
+  first_wrong : (within : ℕ) (depth : Depth) (kind : GroupForm) (known : Members) (node : Node) (nodes : List Node) (wrong : TreeFault) → IsPlain node
       → statement_in within depth known.room node ≡ Err wrong → read_from within depth kind known (node ∷ nodes) ≡ Err wrong
   unfolding after_each with_member
-  first_wrong within depth kind known node nodes wrong plain e = rw (no_action (has_own_actions kind) (is_pair node) plain, e) refl
+  first_wrong within depth kind known node nodes wrong plain e =
+      rw (no_action (has_own_actions kind) (is_pair node) plain.0, not_later_stands (is_last_open known.statements) node plain.1, e) refl
 
-  opened_wrong : (within room : ℕ) (depth : Depth) (place : Place) (kind : GroupForm) (node : Node) (nodes : List Node) (wrong : TreeFault) → 0 < within → is_pair node ≡ false
+  opened_wrong : (within room : ℕ) (depth : Depth) (place : Place) (kind : GroupForm) (node : Node) (nodes : List Node) (wrong : TreeFault) → 0 < within → IsPlain node
       → statement_in (within - 1) depth room node ≡ Err wrong → inner_of within depth place kind [] room (node ∷ nodes) ≡ Err wrong
   opened_wrong within room depth place kind node nodes wrong some plain e =
       some_within site section within depth place kind [] room (node ∷ nodes) some ∙ first_wrong (within - 1) depth kind (begun [] room) node nodes wrong plain e
 
-  around_no_pair : (levels : ℕ) (node last : Node) → Around levels node last → is_pair node ≡ false
-  around_no_pair _ _ _ (alone last kind word name body begun_by e) = block_no_pair last word name body e
-  around_no_pair _ _ _ (around levels node inner last kind word name rest begun_by e deeper) = block_no_pair node word name (inner ∷ rest) e
+  around_plain : (levels : ℕ) (node last : Node) → Around levels node last → IsPlain node
+  around_plain _ _ _ (alone last kind word name body begun_by e) = block_plain last kind word name body begun_by e
+  around_plain _ _ _ (around levels node inner last kind word name rest begun_by e deeper) = block_plain node kind word name (inner ∷ rest) begun_by e
 
   group_deep : (opener : Opener) (depth : Depth) (room : ℕ) (place : Place) (kind : GroupForm) (body : List Node) → depth.levels ≡ 0
       → group_at opener depth room place kind body ≡ Err (fault.TooDeep place)
@@ -346,7 +361,7 @@ module _ (site : Site) (section : Section) where
       ∙ ap (λ r. r >>= λ (c : Counted). Ok (Some c))
       (group_wrong (inner_of within) (depth_at (suc levels) []) levels room node.place kind (inner ∷ rest) (fault.TooDeep last.place) refl (omega (arith, fits))
       (ap (λ n. inner_of within (depth_at n []) node.place kind [] (room - 1) (inner ∷ rest)) less
-      ∙ opened_wrong within (room - 1) (depth_at levels []) node.place kind inner rest (fault.TooDeep last.place) (omega (arith, enough)) (around_no_pair levels inner last deeper)
+      ∙ opened_wrong within (room - 1) (depth_at levels []) node.place kind inner rest (fault.TooDeep last.place) (omega (arith, enough)) (around_plain levels inner last deeper)
       (last_too_deep (within - 1) levels (room - 1) inner last deeper (omega (arith, fits)) (omega (arith, enough)))))
 
   policy_loop : (opener : Opener) (depth : Depth) (room : ℕ) (node policy : Node) → is_open depth.entered policy ≡ true
@@ -360,9 +375,9 @@ module _ (site : Site) (section : Section) where
   policy_wrong opener depth room node word policy wrong spelled fresh some e =
       rw (is_fresh depth.entered node.place policy fresh, no_braces node word depth.levels spelled, counted room node.place some, no_body node word spelled, e) refl
 
-  back_no_pair : (entered : List (List ℕ)) (before : ℕ) (node last : Node) → LeadsBack site section entered before node last → is_pair node ≡ false
-  back_no_pair _ _ _ _ (calls_itself entered last word policy called e) = word_no_pair last word called.spelled
-  back_no_pair _ _ _ _ (leads entered before node inner last word policy rest called fresh body more) = word_no_pair node word called.spelled
+  back_plain : (entered : List (List ℕ)) (before : ℕ) (node last : Node) → LeadsBack site section entered before node last → IsPlain node
+  back_plain _ _ _ _ (calls_itself entered last word policy called e) = word_plain last word called.spelled
+  back_plain _ _ _ _ (leads entered before node inner last word policy rest called fresh body more) = word_plain node word called.spelled
 
   -- a policy that calls itself
   pub leads_back : (within levels room : ℕ) (entered : List (List ℕ)) (before : ℕ) (node last : Node) → LeadsBack site section entered before node last → before ≤ room → before ≤ within
@@ -376,5 +391,5 @@ module _ (site : Site) (section : Section) where
       (policy_wrong (inner_of within) (depth_at levels entered) room node word policy (fault.PolicyLoop last.place) called.spelled fresh (omega (arith, fits))
       (ap (inner_of within (depth_at levels (kind_of policy ∷ entered)) node.place form.Policy [] (room - 1)) body
       ∙ opened_wrong within (room - 1) (depth_at levels (kind_of policy ∷ entered)) node.place form.Policy inner rest (fault.PolicyLoop last.place) (omega (arith, enough))
-      (back_no_pair (kind_of policy ∷ entered) before inner last more)
+      (back_plain (kind_of policy ∷ entered) before inner last more)
       (leads_back (within - 1) levels (room - 1) (kind_of policy ∷ entered) before inner last more (omega (arith, fits)) (omega (arith, enough)))))

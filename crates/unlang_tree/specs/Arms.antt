@@ -32,12 +32,14 @@ goes_on word.If = false
 goes_on word.Elsif = true
 goes_on word.Else = true
 
+-- The same of what may be an arm.
+abbrev pub follows : Option ArmWord → Bool
+follows None = false
+follows (Some word) = goes_on word
+
 -- A node goes on with the `if` before it.
 abbrev pub is_later_arm : Node → Bool
-is_later_arm node = elim (arm_of node) [
-  | None ↦ false
-  | Some arm ↦ goes_on arm
-]
+is_later_arm node = follows (arm_of node)
 
 -- The text that is written as a block's name; none where the block has none.
 abbrev pub name_of : Node → Option (List ℕ)
