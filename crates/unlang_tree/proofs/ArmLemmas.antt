@@ -1,24 +1,33 @@
 -- What goes on with an `if`, and what doesn't.
-use Rattle.std.proofs.Common.{codes, ◌≡◌, ℕ, Bool, false, List, [], ◌∷◌, ◌++◌, Option, Some, None, Result, Ok, Err, refl, sym, ap, ◌∙◌}
+use Rattle.std.proofs.Common.{codes, ◌≡◌, ℕ, ◌-◌, Bool, true, false, is_some, List, [], ◌∷◌, ◌++◌, length, Option, Some, None, Result, Ok, Err, refl, sym, ap, ◌∙◌, length-append, arith}
+use Rattle.std.specs.List.{slice_get}
+use Rattle.std.proofs.lemmas.Option.{slice_get_read}
+use Rattle.std.proofs.Math.Seq.{get_or-append_seam}
+use Rattle.rad_outside.specs.declared.files.Place.{Place}
 use Rattle.rad_conf.specs.declared.tree.Word.{Word}
 use Rattle.rad_conf.specs.declared.tree.Node.{Node}
 use Rattle.rad_conf.specs.declared.tree.Item.{out-Item}
 use Rattle.unlang_tree.specs.declared.fault.TreeFault.{TreeFault}
+use Rattle.unlang_cond.specs.Trees.{Tree}
+use Rattle.unlang_tree.specs.declared.statement.Arm.{Arm, roll-Arm, out-roll-Arm}
 use Rattle.unlang_tree.specs.declared.statement.Call.{Call}
+use Rattle.unlang_tree.specs.declared.statement.Group.{Group}
+use Rattle.unlang_tree.specs.declared.statement.Override.{Override}
 use Rattle.unlang_tree.specs.declared.statement.GroupForm.{GroupForm}
 use Rattle.unlang_tree.specs.declared.statement.Statement.{Statement}
-use Rattle.unlang_tree.specs.declared.statement.StatementKind.{out-StatementKind, out-roll-StatementKind}
+use Rattle.unlang_tree.specs.declared.statement.StatementKind.{StatementKind, out-StatementKind, out-roll-StatementKind}
 use Rattle.unlang_tree.specs.declared.statement.StatementKind.TheVariants as kinds
-use Rattle.unlang_tree.specs.declared.statement.StatementKind.TheVariants.{rolls-Call}
+use Rattle.unlang_tree.specs.declared.statement.StatementKind.TheVariants.{rolls-Call, rolls-If}
 use Rattle.unlang_tree.specs.declared.statement.StatementKind.TheOpen as opened
+use Rattle.unlang_tree.specs.declared.statement.StatementKind.TheOpen.{Arm-F}
 use Rattle.unlang_tree.specs.declared.statements.Counted.{Counted}
 use Rattle.unlang_tree.specs.declared.groups.Members.{Members}
 use Rattle.unlang_tree.specs.Words.{arm_named}
 use Rattle.unlang_tree.specs.Calls.{kind_of}
-use Rattle.unlang_tree.specs.Arms.{arm_of, follows, is_later_arm, is_open, not_stray, gone_on, with_last, joined_by}
+use Rattle.unlang_tree.specs.Arms.{arm_of, follows, is_later_arm, last_asks, is_open, is_open_behind, is_last_open, not_stray, arms_of, gone_on, with_last, joined_by}
 use Rattle.unlang_tree.specs.Groups.{and_also}
 use Rattle.unlang_tree.specs.Written.{IsWord, IsBlock, call_from}
-use Rattle.unlang_tree.specs.WrittenGroups.{Begins, group, redundant, load_balance, redundant_load_balance}
+use Rattle.unlang_tree.specs.WrittenGroups.{Begins, group, redundant, load_balance, redundant_load_balance, arm_from}
 
 pub last_grows : (front : List Statement) (last more : Statement) → with_last (front ++ last ∷ []) more ≡ front ++ gone_on last more ∷ []
 last_grows [] last more = refl
@@ -73,3 +82,51 @@ out_call call = ap out-StatementKind (sym (rolls-Call call)) ∙ out-roll-Statem
 -- no arm may follow a call
 pub call_closed : (node : Node) (number : ℕ) → is_open (call_from node number) ≡ false
 call_closed node number = rw (out_call (record { instance = number; overrides = [] })) refl
+
+-- ---- the last of statements and of arms
+
+last_there : {A : Type 0} (front : List A) (x : A) → slice_get (front ++ x ∷ []) (length (front ++ x ∷ []) - 1) ≡ Some x
+last_there front x =
+    let size = length-append front (x ∷ []) in
+    let at : length (front ++ x ∷ []) - 1 ≡ length front = omega (arith, size) in
+    ap (slice_get (front ++ x ∷ [])) at
+    ∙ slice_get_read (front ++ x ∷ []) (length (front ++ x ∷ [])) (length front) x refl (omega (arith, size)) (sym (get_or-append_seam front x [] x))
+
+pub last_open : (front : List Statement) (one : Statement) → is_open one ≡ true → is_last_open (front ++ one ∷ []) ≡ true
+last_open front one e = ap is_open_behind (last_there front one) ∙ e
+
+out_if : (arms : List Arm) → out-StatementKind (kinds.If arms) ≡ opened.If arms
+out_if arms = ap out-StatementKind (sym (rolls-If arms)) ∙ out-roll-StatementKind (opened.If arms)
+
+arms_are : (arms : List Arm) → arms_of (kinds.If arms) ≡ arms
+arms_are arms = rw (out_if arms) refl
+
+-- the `if` of these arms at a place
+abbrev pub if_at : Place → List Arm → Statement
+if_at place arms = record { place = place; kind = kinds.If arms }
+
+asking : (tree : Tree) (inner : List Statement) → last_asks (Some (arm_from (Some tree) inner)) ≡ true
+asking tree inner = ap (λ (made : Arm-F StatementKind Group Arm Statement). is_some made.condition) (out-roll-Arm (record { condition = Some tree; statements = inner }))
+
+-- an arm may follow where the last one asks
+pub if_open : (place : Place) (before : List Arm) (tree : Tree) (inner : List Statement) → is_open (if_at place (before ++ arm_from (Some tree) inner ∷ [])) ≡ true
+if_open place before tree inner =
+    rw (out_if (before ++ arm_from (Some tree) inner ∷ [])) (ap last_asks (last_there before (arm_from (Some tree) inner)) ∙ asking tree inner)
+
+gone_is : (place other : Place) (arms more : List Arm) → gone_on (if_at place arms) (if_at other more) ≡ if_at place (arms ++ more)
+gone_is place other arms more =
+    ap (λ (xs : List Arm). if_at place (xs ++ arms_of (kinds.If more))) (arms_are arms) ∙ ap (λ (xs : List Arm). if_at place (arms ++ xs)) (arms_are more)
+
+-- what goes on with the last `if` gives it its arms
+pub later_joined : (own : List Override) (front : List Statement) (place : Place) (arms : List Arm) (room : ℕ) (node : Node) (other : Place) (more : List Arm) (left : ℕ) → is_later_arm node ≡ true
+    → and_also (record { overrides = own; statements = front ++ if_at place arms ∷ []; room = room }) node (Some (record { statement = if_at other more; room = left }))
+    ≡ record { overrides = own; statements = front ++ if_at place (arms ++ more) ∷ []; room = left }
+later_joined own front place arms room node other more left e =
+    ap (λ (later : Bool). record { overrides = own; statements = joined_by later (front ++ if_at place arms ∷ []) (if_at other more); room = left }) e
+    ∙ ap (λ (all : List Statement). record { overrides = own; statements = all; room = left })
+    (last_grows front (if_at place arms) (if_at other more) ∙ ap (λ (one : Statement). front ++ one ∷ []) (gone_is place other arms more))
+
+-- and may stand there
+pub later_stands : (may : Bool) (node : Node) → is_later_arm node ≡ true → may ≡ true → not_stray may node ≡ Ok tt
+unfolding not_stray
+later_stands may node e open = rw (e, open) refl

@@ -4,6 +4,7 @@ mod CallLemmas
 mod Walks
 mod GroupLevels
 mod WrittenCalls
+mod WrittenArms
 mod WrittenBlocks
 mod Binds
 pub mod CallsWithin
