@@ -1,9 +1,8 @@
-use Rattle.std.proofs.Common.{◌≡◌, Option, List, Ok, None, ap, sym, subst, ◌∙◌, rules}
+use Rattle.std.proofs.Common.{◌≡◌, Option, List, Ok, None, ap, sym, subst, ◌∙◌}
 use Rattle.unlang_cond.specs.declared.atom.Token.{Token}
 use Rattle.unlang_cond.specs.declared.groups.Step.{Step}
 use Rattle.unlang_cond.specs.declared.fault.Wrong.{Wrong}
 use Rattle.unlang_cond.specs.Steps.{AreFit, AreSteps, first_refused}
-use Rattle.unlang_cond.specs.Tokens.{tokens_of}
 use Rattle.unlang_cond.specs.Trees.{tree_of}
 use Rattle.unlang_cond.proofs.Refused.{none_refused}
 use Rattle.unlang_cond.proofs.Ready.{all_fit}
@@ -16,21 +15,18 @@ all_taken tokens steps ready = none_refused tokens (subst AreFit ready.same (all
 
 pub returns-in-Err-clause-fault : goal.returns-in-Err-clause-fault
 returns-in-Err-clause-fault c =
-    let made : tokens_of c.args.text.now c.args.dict.now ≡ (c.in-Ok.tokens.items, c.in-Ok.wrong) = search rules in
-    rw c.refusal_of.ensures (refused_reading c.args.text.now c.args.dict.now c.in-Ok.tokens.items c.in-Ok.wrong c.in-Err.error made c.in-Err.ensures.refused)
+    rw c.refusal_of.ensures (refused_reading c.args.text.now c.args.dict.now c.in-Ok.field-0.tokens.items c.in-Ok.field-0.wrong c.in-Err.error c.in-Ok.ensures.tokens c.in-Err.ensures.refused)
 
 pub returns-in-Some-clause-fault : goal.returns-in-Some-clause-fault
 returns-in-Some-clause-fault c =
-    let made : tokens_of c.args.text.now c.args.dict.now ≡ (c.in-Ok.tokens.items, c.in-Ok.wrong) = search rules in
     rw c.fault_of.ensures
-    (wrong_reading c.args.text.now c.args.dict.now c.in-Ok.tokens.items c.in-Ok.wrong c.in-Some.wrong made c.in-Some.is
-    (all_taken c.in-Ok.tokens.items c.in-Ok-steps_of.steps.items c.in-Ok-steps_of.ensures.ready))
+    (wrong_reading c.args.text.now c.args.dict.now c.in-Ok.field-0.tokens.items c.in-Ok.field-0.wrong c.in-Some.wrong c.in-Ok.ensures.tokens c.in-Some.is
+    (all_taken c.in-Ok.field-0.tokens.items c.in-Ok-steps_of.steps.items c.in-Ok-steps_of.ensures.ready))
 
 pub returns-in-None-clause-whole : goal.returns-in-None-clause-whole
 returns-in-None-clause-whole c =
-    let made : tokens_of c.args.text.now c.args.dict.now ≡ (c.in-Ok.tokens.items, c.in-Ok.wrong) = search rules in
-    whole_reading c.args.text.now c.args.dict.now c.in-Ok.tokens.items c.in-Ok.wrong made c.in-None.is
-    (all_taken c.in-Ok.tokens.items c.in-Ok-steps_of.steps.items c.in-Ok-steps_of.ensures.ready)
+    whole_reading c.args.text.now c.args.dict.now c.in-Ok.field-0.tokens.items c.in-Ok.field-0.wrong c.in-Ok.ensures.tokens c.in-None.is
+    (all_taken c.in-Ok.field-0.tokens.items c.in-Ok-steps_of.steps.items c.in-Ok-steps_of.ensures.ready)
     ∙ ap (λ (tokens : List Token). Ok (tree_of tokens)) (sym c.in-Ok-steps_of.ensures.ready.same)
 
 pub returns-in-None-clause-patterns : goal.returns-in-None-clause-patterns
