@@ -17,11 +17,7 @@ use unlang_cond::Cond;
 use unlang_tree::{Arm, GroupForm, Override, Policies, SectionTree, Statement, StatementKind};
 
 /// The text of all servers, under the dictionary of their conditions.
-pub fn policies_text(
-    alloc: Global,
-    policies: &Policies,
-    dict: &Dict,
-) -> Result<Vec<u8>, NoMemory> {
+pub fn policies_text(alloc: Global, policies: &Policies, dict: &Dict) -> Result<Vec<u8>, NoMemory> {
     let mut text = Vec::new(alloc);
     for server in policies.servers() {
         text.extend_from_slice(server.name.as_slice())?;
@@ -158,11 +154,7 @@ fn push_arm(alloc: Global, to: &mut Vec<u8>, arm: &Arm, dict: &Dict) -> Result<(
 }
 
 /// What an arm asks: whether its condition holds of an empty request.
-fn asked(
-    alloc: Global,
-    condition: &Option<Cond>,
-    dict: &Dict,
-) -> Result<&'static [u8], NoMemory> {
+fn asked(alloc: Global, condition: &Option<Cond>, dict: &Dict) -> Result<&'static [u8], NoMemory> {
     let Some(condition) = condition else {
         return Ok(b"else");
     };

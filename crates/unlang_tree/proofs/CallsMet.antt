@@ -438,8 +438,8 @@ module _ (site : Site) where
   subsection_met : (section : Section) (known next : Parts) (name : List ℕ) (body : List Node) → PartsMet section known → with_subsection site section known name body ≡ Ok next → PartsMet section next
   unfolding with_subsection
   subsection_met section known next name body all e =
-      let one = bind_ok (members_of site section known.room body) (λ (members : Members). Ok (record { statements = known.statements; subsections = known.subsections ++ record { name = name; statements = members.statements } ∷ []; room = members.room; open = false })) next e in
-      subst (PartsMet section) (ok_same (record { statements = known.statements; subsections = known.subsections ++ record { name = name; statements = one.0.statements } ∷ []; room = one.0.room; open = false }) next one.1.1)
+      let one = bind_ok (members_of site section known.room body) (λ (members : Members). Ok (record { statements = known.statements; subsections = known.subsections ++ record { name = name; statements = members.statements } ∷ []; room = members.room; may_go_on = false })) next e in
+      subst (PartsMet section) (ok_same (record { statements = known.statements; subsections = known.subsections ++ record { name = name; statements = one.0.statements } ∷ []; room = one.0.room; may_go_on = false }) next one.1.1)
       (all.0, sub_added section known.subsections (record { name = name; statements = one.0.statements }) all.1 (members_met section known.room body one.0 one.1.0))
 
   own_met : (section : Section) (name : Option (List ℕ)) (statement : Statement) (subs : List Subsection) → EachCallWithin (IsMet site.instances) section subs
@@ -467,13 +467,13 @@ module _ (site : Site) where
   abbrev part_by : Section → Parts → Node → Option (List ℕ × List Node) → Result Parts TreeFault
   part_by section known node block = elim block [
     | Some block ↦ with_subsection site section known block.0 block.1
-    | None ↦ not_stray known.open node >>= λ placed. statement_at site section known.room node >>= λ statement. Ok (with_one section node known statement)
+    | None ↦ not_stray known.may_go_on node >>= λ placed. statement_at site section known.room node >>= λ statement. Ok (with_one section node known statement)
   ]
 
   part_by_met : (section : Section) (known next : Parts) (node : Node) (block : Option (List ℕ × List Node)) → PartsMet section known → part_by section known node block ≡ Ok next → PartsMet section next
   part_by_met section known next node (Some block) all e = subsection_met section known next block.0 block.1 all e
   part_by_met section known next node None all e =
-      let placed = bind_ok (not_stray known.open node) (λ placed. statement_at site section known.room node >>= λ statement. Ok (with_one section node known statement)) next e in
+      let placed = bind_ok (not_stray known.may_go_on node) (λ placed. statement_at site section known.room node >>= λ statement. Ok (with_one section node known statement)) next e in
       let one = bind_ok (statement_at site section known.room node) (λ statement. Ok (with_one section node known statement)) next placed.1.1 in
       subst (PartsMet section) (ok_same (with_one section node known one.0) next one.1.1) (one_met section node known one.0 all (statement_met section known.room node one.0 one.1.0))
 
@@ -491,7 +491,7 @@ module _ (site : Site) where
   unfolding with_section
   section_met known next section body all e =
       let one = bind_ok (parts_of site section known.room body) (λ (parts : Parts). Ok (record { sections = known.sections ++ section_tree section parts ∷ []; room = parts.room })) next e in
-      let met = kept (with_part site section) (PartsMet section) (part_met section) (record { statements = []; subsections = []; room = known.room; open = false }) one.0 body (tt, tt) one.1.0 in
+      let met = kept (with_part site section) (PartsMet section) (part_met section) (record { statements = []; subsections = []; room = known.room; may_go_on = false }) one.0 body (tt, tt) one.1.0 in
       subst SectionsMet (ok_same (record { sections = known.sections ++ section_tree section one.0 ∷ []; room = one.0.room }) next one.1.1)
       (all_both (EachCallIn (IsMet site.instances)) known.sections (section_tree section one.0 ∷ []) all ((met.0, met.1), tt))
 

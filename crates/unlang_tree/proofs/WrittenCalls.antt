@@ -262,12 +262,12 @@ module _ (site : Site) where
   no_subsection node word e = rw (e, subsection_block) refl
 
   abbrev parts : List Statement → ℕ → Parts
-  parts statements room = record { statements = statements; subsections = []; room = room; open = false }
+  parts statements room = record { statements = statements; subsections = []; room = room; may_go_on = false }
 
   part_ok : (known : Parts) (node : Node) (word : List ℕ) (more : Option Counted) → IsWord node word → statement_at site which.Authorize known.room node ≡ Ok more
       → with_part site which.Authorize known node ≡ Ok (with_one which.Authorize node known more)
   unfolding with_part
-  part_ok known node word more spelled e = rw (no_subsection node word spelled, with_part) (rw (not_later_stands known.open node (word_not_later node word spelled), e) refl)
+  part_ok known node word more spelled e = rw (no_subsection node word spelled, with_part) (rw (not_later_stands known.may_go_on node (word_not_later node word spelled), e) refl)
 
   abbrev parts_from : List Statement → ℕ → List Node → Result Parts TreeFault
   parts_from statements room nodes = after_each (with_part site which.Authorize) (parts statements room) nodes

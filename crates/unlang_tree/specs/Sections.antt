@@ -57,7 +57,7 @@ with_subsection site where_it_stands known name body =
       statements = known.statements;
       subsections = known.subsections ++ record { name = name; statements = members.statements } ∷ [];
       room = members.room;
-      open = false;
+      may_go_on = false;
     })
 
 -- The name that an item calls, where it is a call.
@@ -97,7 +97,7 @@ with_run node known one = record {
   statements = with_next known.statements node one.statement;
   subsections = known.subsections;
   room = one.room;
-  open = is_open one.statement;
+  may_go_on = is_open one.statement;
 }
 
 -- The parts with a statement directly in authenticate.
@@ -106,7 +106,7 @@ with_own node known one = record {
   statements = known.statements;
   subsections = with_call (own_name node one.statement.kind) one.statement known.subsections;
   room = one.room;
-  open = is_open one.statement;
+  may_go_on = is_open one.statement;
 }
 
 -- The parts with a statement directly in a section, where it counts as written.
@@ -127,13 +127,13 @@ with_one where_it_stands node known (Some one) = with_written where_it_stands no
 unfoldable pub with_part : Site → Section → Parts → Node → Result Parts TreeFault
 with_part site where_it_stands known node = elim (subsection_block where_it_stands node) [
   | Some block ↦ with_subsection site where_it_stands known block.0 block.1
-  | None ↦ not_stray known.open node >>= λ placed. statement_at site where_it_stands known.room node >>= λ one. Ok (with_one where_it_stands node known one)
+  | None ↦ not_stray known.may_go_on node >>= λ placed. statement_at site where_it_stands known.room node >>= λ one. Ok (with_one where_it_stands node known one)
 ]
 
 -- What is known of a section by its nodes.
 abbrev pub parts_of : Site → Section → ℕ → List Node → Result Parts TreeFault
 parts_of site where_it_stands room body =
-    after_each (with_part site where_it_stands) (record { statements = []; subsections = []; room = room; open = false }) body
+    after_each (with_part site where_it_stands) (record { statements = []; subsections = []; room = room; may_go_on = false }) body
 
 -- The section and the nodes of a server's item, which is a block of that section's name.
 abbrev pub section_block : Node → Option (Section × List Node)

@@ -201,9 +201,9 @@ fn arm_at(
     let members = members_in(
         alloc, site, section, within, &inner, place, form, none, left, body,
     )?;
-    let rest = members.room;
+    let after = members.room;
     let kind = if_of(alloc, condition, members.statements)?;
-    Ok(with_room(alloc, rest, place, kind)?)
+    Ok(with_room(alloc, after, place, kind)?)
 }
 
 /// The call of a policy.

@@ -26,7 +26,7 @@ pub struct Parts {
     pub subsections: Subsections,
     pub room: usize,
     /// An `elsif` or `else` may follow.
-    pub open: bool,
+    pub may_go_on: bool,
 }
 
 /// The word that begins a subsection of a section; nothing where it has none.
@@ -82,7 +82,7 @@ fn with_subsection(
     let members = members_of(alloc, site, section, known.room, body)?;
     let name = Octets::of(alloc, name)?;
     known.room = members.room;
-    known.open = false;
+    known.may_go_on = false;
     let statements = members.statements;
     known.subsections.push(Subsection { name, statements })?;
     Ok(())
@@ -149,7 +149,7 @@ fn with_run(alloc: Global, node: &Node, known: &mut Parts, one: Counted) -> Resu
     ensures { OnOk result (known.new ≡ with_run node.now known.old one) }
 {
     known.room = one.room;
-    known.open = is_open(&one.statement);
+    known.may_go_on = is_open(&one.statement);
     with_next(alloc, &mut known.statements, node, one.statement)
 }
 
@@ -159,7 +159,7 @@ fn with_own(alloc: Global, node: &Node, known: &mut Parts, one: Counted) -> Resu
 {
     let Counted { statement, room } = one;
     known.room = room;
-    known.open = is_open(&statement);
+    known.may_go_on = is_open(&statement);
     let name = own_name(node, &statement.kind);
     push_call(alloc, name, statement, &mut known.subsections)
 }
@@ -214,7 +214,7 @@ fn with_part(
     if let Some((name, body)) = subsection_block(section, node) {
         return with_subsection(alloc, site, section, known, name, body);
     }
-    not_stray(alloc, known.open, node)?;
+    not_stray(alloc, known.may_go_on, node)?;
     let one = statement_at(alloc, site, section, known.room, node)?;
     with_one(alloc, section, node, known, one)?;
     Ok(())
@@ -234,7 +234,7 @@ pub(crate) fn parts_of(
         statements: Statements::new(alloc),
         subsections: Subsections::new(alloc),
         room,
-        open: false,
+        may_go_on: false,
     };
     for node in body {
         with_part(alloc, site, section, &mut known, node)?;
