@@ -85,7 +85,7 @@ call_closed node number = rw (out_call (record { instance = number; overrides = 
 
 -- ---- the last of statements and of arms
 
-last_there : {A : Type 0} (front : List A) (x : A) → slice_get (front ++ x ∷ []) (length (front ++ x ∷ []) - 1) ≡ Some x
+pub last_there : {A : Type 0} (front : List A) (x : A) → slice_get (front ++ x ∷ []) (length (front ++ x ∷ []) - 1) ≡ Some x
 last_there front x =
     let size = length-append front (x ∷ []) in
     let at : length (front ++ x ∷ []) - 1 ≡ length front = omega (arith, size) in

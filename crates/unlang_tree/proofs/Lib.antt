@@ -4,8 +4,10 @@ mod CallLemmas
 mod Walks
 mod GroupLevels
 mod WrittenCalls
+mod BlockWords
 mod WrittenArms
 mod WrittenBlocks
+mod Strays
 mod Binds
 pub mod CallsWithin
 pub mod CallsMet

@@ -24,6 +24,7 @@ use Rattle.unlang_tree.specs.Depths.{Depth, in_a_block}
 use Rattle.unlang_tree.specs.Groups.{Opener, group_block, if_of, arm_at, arm_or_plain, block_or_plain, called_or_not, statement_by}
 use Rattle.unlang_tree.specs.Written.{IsBlock}
 use Rattle.unlang_tree.specs.WrittenGroups.{IsAsking}
+use Rattle.unlang_tree.proofs.BlockWords.{counted, opens}
 
 -- The word of an arm.
 pub data BeginsArm : ArmWord → List ℕ → Type 0 where
@@ -48,9 +49,6 @@ kind_is node word name body e = rw (e, kind_of) refl
 
 body_is : (node : Node) (word : List ℕ) (name : Option Word) (body : List Node) → IsBlock node word name body → body_of node ≡ body
 body_is node word name body e = rw (e, body_of) refl
-
-pub arm_no_pair : (node : Node) (word : List ℕ) (name : Option Word) (body : List Node) → IsBlock node word name body → is_pair node ≡ false
-arm_no_pair node word name body e = rw (e, is_pair) refl
 
 arm_is : (node : Node) (kind : ArmWord) (word : List ℕ) (name : Option Word) (body : List Node) → BeginsArm kind word → IsBlock node word name body → arm_of node ≡ Some kind
 arm_is node kind word name body begun_by e = ap arm_named (kind_is node word name body e) ∙ arm_is_named kind word begun_by
@@ -95,14 +93,6 @@ module _ (site : Site) (section : Section) where
   no_policy node _ _ name body by_if e = rw (e, policy_called) refl
   no_policy node _ _ name body by_elsif e = rw (e, policy_called) refl
   no_policy node _ _ name body by_else e = rw (e, policy_called) refl
-
-  counted : (room : ℕ) (place : Place) → 0 < room → one_more room place ≡ Ok tt
-  unfolding one_more
-  counted room place some = rw (lt-ltb 0 room some) refl
-
-  opens : (levels : ℕ) (place : Place) → one_deeper (suc levels) place ≡ Ok tt
-  unfolding one_deeper
-  opens levels place = let some : 0 < suc levels = omega arith in rw (lt-ltb 0 (suc levels) some) refl
 
   arm_made : (opener : Opener) (depth : Depth) (levels room : ℕ) (node : Node) (kind : ArmWord) (asks : Option Tree) (body : List Node) (read : Members) → depth.levels ≡ suc levels → 0 < room
       → condition_at site.dict kind node ≡ Ok asks → body_of node ≡ body → opener (in_a_block depth) node.place form.Policy [] (room - 1) body ≡ Ok read

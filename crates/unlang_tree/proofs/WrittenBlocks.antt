@@ -32,46 +32,14 @@ use Rattle.unlang_tree.specs.declared.words.ArmWord.{ArmWord}
 use Rattle.unlang_tree.specs.declared.words.ArmWord.TheVariants as arm
 use Rattle.unlang_tree.specs.Arms.{is_later_arm, is_last_open, not_stray, condition_at}
 use Rattle.unlang_tree.proofs.ArmLemmas.{word_not_later, block_not_later, not_later_stands, plain_also, also_plain, last_open, if_at, if_open, later_joined, later_stands}
-use Rattle.unlang_tree.proofs.WrittenArms.{BeginsArm, by_if, by_elsif, by_else, arm_no_pair, first_arm, elsif_later, else_later, if_asks, elsif_asks, else_asks, arm_read}
+use Rattle.unlang_tree.proofs.WrittenArms.{BeginsArm, by_if, by_elsif, by_else, first_arm, elsif_later, else_later, if_asks, elsif_asks, else_asks, arm_read}
+use Rattle.unlang_tree.proofs.BlockWords.{acting, IsPlain, word_no_pair, word_plain, block_no_pair, block_plain, pair_is, is_group, overridden, no_action, none_first, counted, opens, no_level, no_braces, no_body, is_fresh, is_loop}
 use Rattle.unlang_tree.proofs.GroupLevels.{some_within}
 use Rattle.unlang_tree.proofs.WrittenCalls.{next_from, word_by, return_free, name_by, optional_by, absent_by}
-
--- the word of a block
-named : (kind : GroupForm) (word : List ℕ) → Begins kind word → form_named word ≡ Some kind
-unfolding form_named
-named _ _ group = refl
-named _ _ redundant = refl
-named _ _ load_balance = refl
-named _ _ redundant_load_balance = refl
-
-acting : (kind : GroupForm) (word : List ℕ) → Begins kind word → has_own_actions kind ≡ true
-acting _ _ group = refl
-acting _ _ redundant = refl
-acting _ _ load_balance = refl
-acting _ _ redundant_load_balance = refl
 
 module _ (site : Site) (section : Section) where
   abbrev depth_at : ℕ → List (List ℕ) → Depth
   depth_at levels entered = record { levels = levels; entered = entered }
-
-  -- a node is no pair, and goes on with no `if`
-  abbrev IsPlain : Node → Type 0
-  IsPlain node = (is_pair node ≡ false) × (is_later_arm node ≡ false)
-
-  word_no_pair : (node : Node) (word : List ℕ) → IsWord node word → is_pair node ≡ false
-  word_no_pair node word e = rw (e, is_pair) refl
-
-  word_plain : (node : Node) (word : List ℕ) → IsWord node word → IsPlain node
-  word_plain node word e = (word_no_pair node word e, word_not_later node word e)
-
-  block_no_pair : (node : Node) (kind : List ℕ) (name : Option Word) (body : List Node) → IsBlock node kind name body → is_pair node ≡ false
-  block_no_pair node kind name body e = rw (e, is_pair) refl
-
-  block_plain : (node : Node) (kind : GroupForm) (word : List ℕ) (name : Option Word) (body : List Node) → Begins kind word → IsBlock node word name body → IsPlain node
-  block_plain node kind word name body begun_by e = (block_no_pair node word name body e, block_not_later node kind word name body begun_by e)
-
-  pair_is : (node : Node) (left : Word) (operator : List ℕ) (right : Word) → IsPair node left operator right → is_pair node ≡ true
-  pair_is node left operator right e = rw (e, is_pair) refl
 
   -- a block of statements calls no policy
   no_call : (node : Node) (kind : GroupForm) (word : List ℕ) (name : Option Word) (body : List Node) → Begins kind word → IsBlock node word name body
@@ -81,11 +49,6 @@ module _ (site : Site) (section : Section) where
   no_call node _ _ name body redundant e = rw (e, policy_called) refl
   no_call node _ _ name body load_balance e = rw (e, policy_called) refl
   no_call node _ _ name body redundant_load_balance e = rw (e, policy_called) refl
-
-  -- and is a block of its form
-  is_group : (node : Node) (kind : GroupForm) (word : List ℕ) (name : Option Word) (body : List Node) → Begins kind word → IsBlock node word name body
-      → group_block node ≡ Some (kind, body)
-  is_group node kind word name body begun_by e = rw (e, group_block) (rw (named kind word begun_by) refl)
 
   abbrev inner_of : ℕ → Opener
   inner_of within = opened_at site section within
@@ -111,10 +74,6 @@ module _ (site : Site) (section : Section) where
   unfolding after_each
   none_read within depth kind known = refl
 
-  no_action : (a b : Bool) → b ≡ false → (a && b) ≡ false
-  no_action true b e = e
-  no_action false b e = refl
-
   -- a statement that is no pair is added
   stated : (within : ℕ) (depth : Depth) (kind : GroupForm) (known : Members) (node : Node) (more : Option Counted) → IsPlain node
       → statement_in within depth known.room node ≡ Ok more → reader within depth kind known node ≡ Ok (plain_also known more)
@@ -122,12 +81,6 @@ module _ (site : Site) (section : Section) where
   stated within depth kind known node more plain e =
       rw (no_action (has_own_actions kind) (is_pair node) plain.0, not_later_stands (is_last_open known.statements) node plain.1, e)
       (ap (λ m. Ok m) (also_plain known node more plain.1))
-
-  -- an action of the block's own is added
-  overridden : (overrides : List Override) (node : Node) (left : Word) (operator : List ℕ) (right : Word) (one : Override) → IsPair node left operator right
-      → override_of left.text operator right ≡ Some one → with_override overrides node ≡ Ok (overrides ++ one ∷ [])
-  unfolding with_override override_at
-  overridden overrides node left operator right one e given = rw (e, with_override) (rw given refl)
 
   acted : (within : ℕ) (depth : Depth) (kind : GroupForm) (known : Members) (node : Node) (left : Word) (operator : List ℕ) (right : Word) (one : Override) → has_own_actions kind ≡ true
       → IsPair node left operator right → override_of left.text operator right ≡ Some one
@@ -139,18 +92,6 @@ module _ (site : Site) (section : Section) where
   returned : (room : ℕ) (place : Place) → 0 < room → word_at site section room place (codes "return") ≡ Ok (Some (record { statement = record { place = place; kind = kinds.Return }; room = room - 1 }))
   unfolding word_at one_statement one_more
   returned room place some = rw (lt-ltb 0 room some) refl
-
-  counted : (room : ℕ) (place : Place) → 0 < room → one_more room place ≡ Ok tt
-  unfolding one_more
-  counted room place some = rw (lt-ltb 0 room some) refl
-
-  opens : (levels : ℕ) (place : Place) → one_deeper (suc levels) place ≡ Ok tt
-  unfolding one_deeper
-  opens levels place = let some : 0 < suc levels = omega arith in rw (lt-ltb 0 (suc levels) some) refl
-
-  no_level : (place : Place) → one_deeper 0 place ≡ Err (fault.TooDeep place)
-  unfolding one_deeper
-  no_level place = refl
 
   -- a block of statements is read as its form says
   block_by : (within : ℕ) (depth : Depth) (room : ℕ) (node : Node) (kind : GroupForm) (word : List ℕ) (name : Option Word) (body : List Node) → Begins kind word → IsBlock node word name body
@@ -169,21 +110,6 @@ module _ (site : Site) (section : Section) where
   unfolding statement_by
   policy_by within depth room node word policy called =
       ap (called_or_not (inner_of within) site section depth room node) (policy_is node word policy called)
-
-  no_braces : (node : Node) (word : List ℕ) (levels : ℕ) → IsWord node word → braces_at node levels ≡ Ok tt
-  unfolding braces_at
-  no_braces node word levels e = rw (e, is_braced) refl
-
-  no_body : (node : Node) (word : List ℕ) → IsWord node word → body_of node ≡ []
-  no_body node word e = rw (e, body_of) refl
-
-  is_fresh : (entered : List (List ℕ)) (place : Place) (policy : Node) → is_open entered policy ≡ false → not_open entered place (kind_of policy) ≡ Ok tt
-  unfolding not_open
-  is_fresh entered place policy e = rw e refl
-
-  is_loop : (entered : List (List ℕ)) (place : Place) (policy : Node) → is_open entered policy ≡ true → not_open entered place (kind_of policy) ≡ Err (fault.PolicyLoop place)
-  unfolding not_open
-  is_loop entered place policy e = rw e refl
 
   -- what was read before stands before what is read
   abbrev Reads : ℕ → Depth → GroupForm → List Node → List Override → List Statement → ℕ → Type 0
@@ -270,9 +196,6 @@ module _ (site : Site) (section : Section) where
   -- a statement has actions of its own, or no pairs stand in it
   abbrev MayAct : GroupForm → List Override → Type 0
   MayAct kind own = (has_own_actions kind ≡ true) ⊎ (own ≡ [])
-
-  none_first : {P : Type 0} (one : Override) (own : List Override) → ◌≡◌ {A = List Override} (one ∷ own) [] → P
-  none_first one own e = absurd cc
 
   -- ---- the arms of an `if`
 
@@ -370,7 +293,7 @@ module _ (site : Site) (section : Section) where
         let left : known.room - 1 - deep - more - count ≡ known.room - (suc deep + more + count) = omega (arith, fits) in
         one_read within (depth_at (suc levels) entered) kind known first node (later ++ nodes)
         (stated within (depth_at (suc levels) entered) kind known node (Some (record { statement = if_from node (arm_from (Some tree) within_it ∷ []); room = known.room - 1 - deep }))
-        (arm_no_pair node (codes "if") (Some is.name) body is.spelled, first_arm node (Some is.name) body is.spelled)
+        (block_no_pair node (codes "if") (Some is.name) body is.spelled, first_arm node (Some is.name) body is.spelled)
         (arm_block within levels known.room entered node arm.If (codes "if") (Some is.name) (Some tree) body within_it deep (omega (arith, enough)) by_if is.spelled (if_asks site node tree body is)
         (block_reads (within - 1) levels entered form.Policy body [] within_it deep (omega (arith, enough)) (inr refl) nested) (omega (arith, fits))))
         ∙ arms_read (reader within (depth_at (suc levels) entered) kind) within levels entered (reader_adds within (depth_at (suc levels) entered) kind) later nodes arms more (omega (arith, enough)) further
@@ -400,7 +323,7 @@ module _ (site : Site) (section : Section) where
         let left : room - 1 - deep - more ≡ room - (suc deep + more) = omega (arith, fits) in
         step_read step (choosing own front place so_far room) (choosing own front place (so_far ++ one ∷ []) (room - 1 - deep)) node (nodes ++ rest)
         (later_read step within (depth_at (suc levels) entered) adds own front place before tree inner room node (one ∷ []) (room - 1 - deep)
-        (arm_no_pair node (codes "elsif") (Some is.name) body is.spelled) (elsif_later node (Some is.name) body is.spelled)
+        (block_no_pair node (codes "elsif") (Some is.name) body is.spelled) (elsif_later node (Some is.name) body is.spelled)
         (arm_block within levels room entered node arm.Elsif (codes "elsif") (Some is.name) (Some asks) body within_it deep (omega (arith, enough)) by_elsif is.spelled (elsif_asks site node asks body is)
         (block_reads (within - 1) levels entered form.Policy body [] within_it deep (omega (arith, enough)) (inr refl) nested) (omega (arith, fits))))
         ∙ arms_read step within levels entered adds nodes rest arms more (omega (arith, enough)) further own front place so_far asks within_it (room - 1 - deep) (omega (arith, fits))
@@ -412,7 +335,7 @@ module _ (site : Site) (section : Section) where
         let left : room - 1 - deep ≡ room - suc deep = omega (arith, fits) in
         step_read step (choosing own front place so_far room) (choosing own front place (so_far ++ one ∷ []) (room - 1 - deep)) node rest
         (later_read step within (depth_at (suc levels) entered) adds own front place before tree inner room node (one ∷ []) (room - 1 - deep)
-        (arm_no_pair node (codes "else") name body e) (else_later node name body e)
+        (block_no_pair node (codes "else") name body e) (else_later node name body e)
         (arm_block within levels room entered node arm.Else (codes "else") name None body within_it deep (omega (arith, enough)) by_else e (else_asks site.dict node)
         (block_reads (within - 1) levels entered form.Policy body [] within_it deep (omega (arith, enough)) (inr refl) nested) (omega (arith, fits))))
         ∙ ap (λ n. after_each step (choosing own front place (so_far ++ one ∷ []) n) rest) left
@@ -428,7 +351,7 @@ module _ (site : Site) (section : Section) where
       let later_arm = first_arm node (Some is.name) body is.spelled in
       ap (λ r. r >>= λ (m : Members). Ok m.statements)
       (step_read step (begun [] room) first node later
-      (section_adds (begun [] room) node (Some (record { statement = if_from node (one ∷ []); room = room - 1 - count })) (arm_no_pair node (codes "if") (Some is.name) body is.spelled)
+      (section_adds (begun [] room) node (Some (record { statement = if_from node (one ∷ []); room = room - 1 - count })) (block_no_pair node (codes "if") (Some is.name) body is.spelled)
       (not_later_stands (is_last_open []) node later_arm)
       (arm_block most_statements 31 room [] node arm.If (codes "if") (Some is.name) (Some tree) body inner count (omega arith) by_if is.spelled (if_asks site node tree body is)
       (block_reads (most_statements - 1) 31 [] form.Policy body [] inner count (omega (arith, fits, most)) (inr refl) nested) (omega (arith, fits)))

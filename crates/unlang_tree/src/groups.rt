@@ -1,7 +1,7 @@
 //! The statements of a section, with blocks and policies within one another. What stands within a statement is read by the same
 //! functions with a statement less to go, so that no configuration leads deeper than a server has room for statements.
 
-ghost use Rattle.std.specs.Prelude.{◌≡◌, ◌-◌, OnOk};
+ghost use Rattle.std.specs.Prelude.{◌≡◌, ◌-◌, OnOk, IfOk};
 ghost use Rattle.std.specs.Option.{option_map};
 ghost use Rattle.unlang_tree.specs.Readings.{Gives, Leaves, after_each};
 ghost use Rattle.unlang_tree.specs.Sites.{site_of};

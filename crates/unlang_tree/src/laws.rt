@@ -68,6 +68,17 @@ pub fn a_written_if_is_read()
         → statements_of site section room (node ∷ later) ≡ Ok (if_from node (arm_from (Some condition) inner ∷ arms) ∷ []) }
 {}
 
+/// An `elsif` or an `else` behind good calls alone follows no `if`: it is the fault UnknownKeyword of its section, at its place,
+/// whatever it asks and whatever stands in it and behind it.
+pub fn a_stray_else_is_an_unknown_keyword()
+    ensures asking { (site : Site) (section : AnySection) (room : ℕ) (good : List Node) (calls : List AnyStatement) (bad : Node) (name : Option Word) (body rest : List Node)
+        → Spell site section good calls → length calls ≤ room → IsBlock bad (codes "elsif") name body
+        → statements_of site section room (good ++ bad ∷ rest) ≡ Err (TreeFault.UnknownKeyword bad.place) }
+    ensures last { (site : Site) (section : AnySection) (room : ℕ) (good : List Node) (calls : List AnyStatement) (bad : Node) (name : Option Word) (body rest : List Node)
+        → Spell site section good calls → length calls ≤ room → IsBlock bad (codes "else") name body
+        → statements_of site section room (good ++ bad ∷ rest) ≡ Err (TreeFault.UnknownKeyword bad.place) }
+{}
+
 /// A word that calls a policy is read as the policy's statements, laid out where the word stands and read in the calling section:
 /// exactly these statements in order, with blocks no more than 32 within one another, and with the policies that they call
 /// laid out in turn, none of them within itself. The call is one statement, and leaves so many fewer than its own.
