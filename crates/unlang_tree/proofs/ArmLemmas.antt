@@ -129,4 +129,4 @@ later_joined own front place arms room node other more left e =
 -- and may stand there
 pub later_stands : (may : Bool) (node : Node) → is_later_arm node ≡ true → may ≡ true → not_stray may node ≡ Ok tt
 unfolding not_stray
-later_stands may node e open = rw (e, open) refl
+later_stands may node e free = rw (e, free) refl
