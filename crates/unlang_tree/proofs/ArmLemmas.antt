@@ -81,7 +81,7 @@ out_call call = ap out-StatementKind (sym (rolls-Call call)) ∙ out-roll-Statem
 
 -- no arm may follow a call
 pub call_closed : (node : Node) (number : ℕ) → is_open (call_from node number) ≡ false
-call_closed node number = rw (out_call (record { instance = number; overrides = [] })) refl
+call_closed node number = rw (out_call (record { instance = number; overrides = [] }), is_open) refl
 
 -- ---- the last of statements and of arms
 
@@ -99,19 +99,19 @@ out_if : (arms : List Arm) → out-StatementKind (kinds.If arms) ≡ opened.If a
 out_if arms = ap out-StatementKind (sym (rolls-If arms)) ∙ out-roll-StatementKind (opened.If arms)
 
 arms_are : (arms : List Arm) → arms_of (kinds.If arms) ≡ arms
-arms_are arms = rw (out_if arms) refl
+arms_are arms = rw (out_if arms, arms_of) refl
 
 -- the `if` of these arms at a place
 abbrev pub if_at : Place → List Arm → Statement
 if_at place arms = record { place = place; kind = kinds.If arms }
 
 asking : (tree : Tree) (inner : List Statement) → last_asks (Some (arm_from (Some tree) inner)) ≡ true
-asking tree inner = ap (λ (made : Arm-F StatementKind Group Arm Statement). is_some made.condition) (out-roll-Arm (record { condition = Some tree; statements = inner }))
+asking tree inner = ap (λ (made : Arm-F StatementKind Arm Group Statement). is_some made.condition) (out-roll-Arm (record { condition = Some tree; statements = inner }))
 
 -- an arm may follow where the last one asks
 pub if_open : (place : Place) (before : List Arm) (tree : Tree) (inner : List Statement) → is_open (if_at place (before ++ arm_from (Some tree) inner ∷ [])) ≡ true
 if_open place before tree inner =
-    rw (out_if (before ++ arm_from (Some tree) inner ∷ [])) (ap last_asks (last_there before (arm_from (Some tree) inner)) ∙ asking tree inner)
+    rw (out_if (before ++ arm_from (Some tree) inner ∷ []), is_open) (ap last_asks (last_there before (arm_from (Some tree) inner)) ∙ asking tree inner)
 
 gone_is : (place other : Place) (arms more : List Arm) → gone_on (if_at place arms) (if_at other more) ≡ if_at place (arms ++ more)
 gone_is place other arms more =
