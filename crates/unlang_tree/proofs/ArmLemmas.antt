@@ -1,15 +1,13 @@
 -- What goes on with an `if`, and what doesn't.
-use Rattle.std.proofs.Common.{codes, ◌≡◌, ℕ, ◌-◌, Bool, true, false, is_some, List, [], ◌∷◌, ◌++◌, length, Option, Some, None, Result, Ok, Err, refl, sym, ap, ◌∙◌, length-append, arith}
+use Rattle.std.proofs.Common.{◌≡◌, ℕ, ◌-◌, Bool, true, false, is_some, List, [], ◌∷◌, ◌++◌, length, Option, Some, None, Ok, refl, sym, ap, ◌∙◌, length-append, arith}
 use Rattle.std.specs.List.{slice_get}
 use Rattle.std.proofs.lemmas.Option.{slice_get_read}
 use Rattle.std.proofs.Math.Seq.{get_or-append_seam}
 use Rattle.rad_outside.specs.declared.files.Place.{Place}
 use Rattle.rad_conf.specs.declared.tree.Word.{Word}
 use Rattle.rad_conf.specs.declared.tree.Node.{Node}
-use Rattle.rad_conf.specs.declared.tree.Item.{out-Item}
-use Rattle.unlang_tree.specs.declared.fault.TreeFault.{TreeFault}
 use Rattle.unlang_cond.specs.Trees.{Tree}
-use Rattle.unlang_tree.specs.declared.statement.Arm.{Arm, roll-Arm, out-roll-Arm}
+use Rattle.unlang_tree.specs.declared.statement.Arm.{Arm, out-roll-Arm}
 use Rattle.unlang_tree.specs.declared.statement.Call.{Call}
 use Rattle.unlang_tree.specs.declared.statement.Group.{Group}
 use Rattle.unlang_tree.specs.declared.statement.Override.{Override}

@@ -1,8 +1,7 @@
 -- Each call that is read is of an instance that is there and has a method for its section.
-use Rattle.std.proofs.Common.{codes, ◌≡◌, ℕ, zero, suc, ◌-◌, Bool, true, false, not, ◌&&◌, ◌||◌, cond, if◌then◌else◌, List, [], ◌∷◌, ◌++◌, Option, Some, None, is_some, map, Result, Ok, Err, refl, sym, ap, subst, ◌∙◌}
+use Rattle.std.proofs.Common.{codes, ◌≡◌, ℕ, zero, suc, ◌-◌, Bool, true, false, not, ◌&&◌, ◌||◌, cond, if◌then◌else◌, List, [], ◌∷◌, ◌++◌, Option, Some, None, is_some, map, Result, Ok, Err, sym, ap, subst, ◌∙◌}
 use Rattle.std.specs.List.{AllByRecursion, list_all}
 use Rattle.std.specs.Str.{str_eq_ignore_ascii_case}
-use Rattle.std.proofs.lemmas.Grind.{flat_map-append}
 use Rattle.rad_outside.specs.declared.files.Place.{Place}
 use Rattle.rad_conf.specs.declared.tree.Word.{Word}
 use Rattle.rad_conf.specs.declared.tree.Node.{Node}
@@ -36,12 +35,12 @@ use Rattle.unlang_tree.specs.declared.policies.SectionTree.{SectionTree}
 use Rattle.unlang_tree.specs.declared.policies.ServerTree.{ServerTree}
 use Rattle.unlang_tree.specs.declared.subsections.Parts.{Parts}
 use Rattle.unlang_tree.specs.declared.servers.Known.{Known}
-use Rattle.unlang_tree.specs.Instances.{Instance, number_of}
+use Rattle.unlang_tree.specs.Instances.{number_of}
 use Rattle.unlang_tree.specs.Sites.{Site}
 use Rattle.unlang_tree.specs.Readings.{one_more, one_deeper, after_each, most_statements}
 use Rattle.unlang_tree.specs.Words.{is_one_of, is_return, later_words, later_blocks}
-use Rattle.unlang_tree.specs.Calls.{kind_of, body_of, can_be_called, call_of, called_name, is_unwritten, call_at, not_open}
-use Rattle.unlang_tree.specs.Arms.{arm_of, condition_at, is_last_open, is_open, not_stray, is_later_arm, arms_of, gone_on, with_last, joined_by, with_next}
+use Rattle.unlang_tree.specs.Calls.{kind_of, body_of, call_of, called_name, is_unwritten, call_at, not_open}
+use Rattle.unlang_tree.specs.Arms.{arm_of, condition_at, is_last_open, not_stray, is_later_arm, arms_of, gone_on, with_last, joined_by}
 use Rattle.unlang_tree.specs.Actions.{with_override, overrides_of}
 use Rattle.unlang_tree.specs.Updates.{update_at}
 use Rattle.unlang_tree.specs.Statements.{with_room, one_statement, counted_call, word_at, is_pair, with_actions, call_block_at, update_statement}
@@ -52,54 +51,9 @@ use Rattle.unlang_tree.specs.Sections.{subsection_block, with_subsection, own_na
 use Rattle.unlang_tree.specs.Policies.{server_block, with_server, servers_of}
 use Rattle.unlang_tree.specs.EachCall.{joined, calls_in_kind, calls_in, calls_of, EachCall, EachCallWithin, EachCallIn, EachCallOfSections, EachCallOf, IsMet}
 use Rattle.unlang_tree.proofs.CallsWithin.{calls_by_kind, calls_of_call, calls_of_return, calls_of_update, calls_of_made, calls_of_if, calls_of_one_arm}
-use Rattle.unlang_tree.proofs.Binds.{ok_same, err_ok, bind_ok, past, passed, either, kept, all_both, all_apart, all_wider}
-
-module _ (holds : Section → Call → Type 0) (section : Section) where
-  -- one statement more
-  pub each_added : (statements : List Statement) (one : Statement) → EachCall holds section statements → AllByRecursion (holds section) (calls_in one)
-      → EachCall holds section (statements ++ one ∷ [])
-  each_added statements one all more =
-      subst (AllByRecursion (holds section)) (sym (flat_map-append calls_in statements (one ∷ [])))
-      (all_both (holds section) (calls_of statements) (calls_in one ++ []) all (all_both (holds section) (calls_in one) [] more tt))
-
--- what holds of calls wherever another does
-pub each_wider : (holds wider : Section → Call → Type 0) → ((section : Section) (call : Call) → holds section call → wider section call)
-    → (section : Section) (statements : List Statement) → EachCall holds section statements → EachCall wider section statements
-each_wider holds wider h section statements all = all_wider (holds section) (wider section) (h section) (calls_of statements) all
-
-within_wider : (holds wider : Section → Call → Type 0) → ((section : Section) (call : Call) → holds section call → wider section call)
-    → (section : Section) (subs : List Subsection) → EachCallWithin holds section subs → EachCallWithin wider section subs
-within_wider holds wider h section subs all =
-    all_wider (λ (sub : Subsection). EachCall holds section sub.statements) (λ (sub : Subsection). EachCall wider section sub.statements)
-    (λ sub. each_wider holds wider h section sub.statements) subs all
-
-section_wider : (holds wider : Section → Call → Type 0) → ((section : Section) (call : Call) → holds section call → wider section call)
-    → (tree : SectionTree) → EachCallIn holds tree → EachCallIn wider tree
-section_wider holds wider h tree all =
-    (each_wider holds wider h tree.section tree.statements all.0, within_wider holds wider h tree.section tree.subsections all.1)
-
-pub servers_wider : (holds wider : Section → Call → Type 0) → ((section : Section) (call : Call) → holds section call → wider section call)
-    → (servers : List ServerTree) → EachCallOf holds servers → EachCallOf wider servers
-servers_wider holds wider h servers all =
-    all_wider (λ (server : ServerTree). EachCallOfSections holds server.sections) (λ (server : ServerTree). EachCallOfSections wider server.sections)
-    (λ server. all_wider (EachCallIn holds) (EachCallIn wider) (section_wider holds wider h) server.sections) servers all
-
--- the call of the instance of a number, where one was found
-abbrev numbered : List Instance → Section → Place → List ℕ → Option ℕ → Result Call TreeFault
-numbered instances section place name found = elim found [
-  | None ↦ Err (fault.UnknownModule place name)
-  | Some number ↦
-      if can_be_called instances section number then Ok (record { instance = number; overrides = [] })
-      else Err (fault.NoSuchMethod place)
-]
-
-numbered_met : (instances : List Instance) (section : Section) (place : Place) (name : List ℕ) (found : Option ℕ) (call : Call)
-    → numbered instances section place name found ≡ Ok call → IsMet instances section call
-numbered_met instances section place name None call e = err_ok call (fault.UnknownModule place name) e
-numbered_met instances section place name (Some number) call e =
-    let plain : Call = record { instance = number; overrides = [] } in
-    let both = passed (can_be_called instances section number) plain (fault.NoSuchMethod place) call e in
-    ap (λ (c : Call). can_be_called instances section c.instance) (sym both.1) ∙ both.0
+use Rattle.unlang_tree.proofs.EachWider.{each_added}
+use Rattle.unlang_tree.proofs.CallLemmas.{numbered_met}
+use Rattle.unlang_tree.proofs.Binds.{ok_same, err_ok, bind_ok, past, either, kept, all_both, all_apart}
 
 module _ (site : Site) where
   call_met : (section : Section) (place : Place) (name : List ℕ) (call : Call) → call_of site.instances section place name ≡ Ok call → IsMet site.instances section call

@@ -9,7 +9,7 @@ use Rattle.unlang_tree.specs.declared.statement.Override.{Override}
 use Rattle.unlang_tree.specs.declared.statement.Statement.{Statement}
 use Rattle.unlang_cond.specs.Trees.{Tree}
 use Rattle.std.specs.Prelude.{Option}
-use Rattle.unlang_tree.specs.declared.statement.StatementKind.{StatementKind, out-StatementKind, roll-StatementKind, roll-out-StatementKind}
+use Rattle.unlang_tree.specs.declared.statement.StatementKind.{StatementKind}
 use Rattle.unlang_tree.specs.declared.statement.StatementKind.TheVariants as kinds
 use Rattle.unlang_tree.specs.declared.statement.StatementKind.TheVariants.{rolls-Call, rolls-Group, rolls-Return, rolls-Update, rolls-If}
 use Rattle.unlang_tree.specs.declared.statement.StatementKind.TheOpen.{StatementKind-F, Group-F, Arm-F}

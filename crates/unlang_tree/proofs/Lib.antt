@@ -10,4 +10,5 @@ mod WrittenBlocks
 mod Strays
 mod Binds
 pub mod CallsWithin
+pub mod EachWider
 pub mod CallsMet

@@ -1,5 +1,5 @@
 -- An `elsif` or an `else` behind calls alone.
-use Rattle.std.proofs.Common.{codes, ◌≡◌, ℕ, suc, ◌-◌, ◌≤◌, true, false, List, [], ◌∷◌, ◌++◌, length, Ok, Err, refl, ap, ◌∙◌, arith}
+use Rattle.std.proofs.Common.{◌≡◌, ℕ, suc, ◌-◌, ◌≤◌, true, false, List, [], ◌∷◌, ◌++◌, length, Ok, Err, refl, ap, ◌∙◌, arith}
 use Rattle.std.specs.List.{slice_get}
 use Rattle.rad_conf.specs.declared.tree.Node.{Node}
 use Rattle.rad_words.specs.declared.sections.Section.{Section}

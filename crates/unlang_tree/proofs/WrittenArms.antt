@@ -1,5 +1,5 @@
 -- Written arms of an `if`, each by itself.
-use Rattle.std.proofs.Common.{codes, ◌≡◌, ℕ, suc, ◌-◌, ◌<◌, Bool, true, false, lt-ltb, List, [], ◌∷◌, Option, Some, None, Result, Ok, refl, ap, ◌∙◌, arith}
+use Rattle.std.proofs.Common.{codes, ◌≡◌, ℕ, suc, ◌-◌, ◌<◌, true, false, List, [], Option, Some, None, Ok, refl, ap, ◌∙◌}
 use Rattle.rad_outside.specs.declared.files.Place.{Place}
 use Rattle.rad_conf.specs.declared.tree.Word.{Word}
 use Rattle.rad_conf.specs.declared.tree.Node.{Node}
@@ -14,11 +14,11 @@ use Rattle.unlang_tree.specs.declared.groups.Members.{Members}
 use Rattle.unlang_tree.specs.declared.words.ArmWord.{ArmWord}
 use Rattle.unlang_tree.specs.declared.words.ArmWord.TheVariants as arm
 use Rattle.unlang_tree.specs.Sites.{Site}
-use Rattle.unlang_tree.specs.Readings.{one_more, one_deeper}
+use Rattle.unlang_tree.specs.Readings.{one_deeper}
 use Rattle.unlang_tree.specs.Words.{form_named, arm_named}
 use Rattle.unlang_tree.specs.Calls.{kind_of, body_of}
 use Rattle.unlang_tree.specs.Arms.{arm_of, follows, is_later_arm, name_of, judged_at, asked, condition_at}
-use Rattle.unlang_tree.specs.Statements.{with_room, is_pair}
+use Rattle.unlang_tree.specs.Statements.{with_room}
 use Rattle.unlang_tree.specs.PolicyCalls.{policy_called}
 use Rattle.unlang_tree.specs.Depths.{Depth, in_a_block}
 use Rattle.unlang_tree.specs.Groups.{Opener, group_block, if_of, arm_at, arm_or_plain, block_or_plain, called_or_not, statement_by}

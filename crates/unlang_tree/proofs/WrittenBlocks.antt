@@ -1,5 +1,5 @@
 -- Written blocks of statements and called policies are read.
-use Rattle.std.proofs.Common.{codes, ◌≡◌, ℕ, suc, ◌+◌, ◌-◌, ◌<◌, ◌≤◌, Bool, true, false, ◌&&◌, lt-ltb, List, [], ◌∷◌, ◌++◌, length, Option, Some, None, Result, Ok, Err, ◌⊎◌, inl, inr, refl, sym, ap, ◌∙◌, arith, append_assoc}
+use Rattle.std.proofs.Common.{codes, ◌≡◌, ℕ, suc, ◌+◌, ◌-◌, ◌<◌, ◌≤◌, true, false, lt-ltb, List, [], ◌∷◌, ◌++◌, length, Option, Some, None, Result, Ok, Err, ◌⊎◌, inl, inr, refl, sym, ap, ◌∙◌, arith, append_assoc}
 use Rattle.std.proofs.lemmas.List.{append-nil}
 use Rattle.rad_outside.specs.declared.files.Place.{Place}
 use Rattle.rad_conf.specs.declared.tree.Word.{Word}
@@ -18,12 +18,12 @@ use Rattle.unlang_tree.specs.declared.groups.Members.{Members}
 use Rattle.unlang_tree.specs.Sites.{Site}
 use Rattle.unlang_tree.specs.Readings.{one_more, one_deeper, most_statements, after_each}
 use Rattle.unlang_tree.specs.Words.{form_named}
-use Rattle.unlang_tree.specs.Calls.{kind_of, body_of, not_open}
-use Rattle.unlang_tree.specs.Actions.{override_of, override_at, with_override}
+use Rattle.unlang_tree.specs.Calls.{kind_of, body_of}
+use Rattle.unlang_tree.specs.Actions.{override_of}
 use Rattle.unlang_tree.specs.Statements.{one_statement, with_room, word_at, is_pair}
-use Rattle.unlang_tree.specs.PolicyCalls.{policy_called, is_braced, braces_at}
+use Rattle.unlang_tree.specs.PolicyCalls.{policy_called}
 use Rattle.unlang_tree.specs.Depths.{Depth, in_a_block, in_a_policy}
-use Rattle.unlang_tree.specs.Groups.{Opener, group_block, group_of, group_at, policy_call, block_or_plain, called_or_not, statement_by, statement_at, and_also, with_own_action, has_own_actions, with_member, begun, opened_at, with_statement, statements_of}
+use Rattle.unlang_tree.specs.Groups.{Opener, group_of, group_at, policy_call, block_or_plain, called_or_not, statement_by, statement_at, and_also, with_own_action, has_own_actions, with_member, begun, opened_at, with_statement, statements_of}
 use Rattle.unlang_tree.specs.Written.{IsWord, IsBlock, CallsPolicy, is_open, call_from, Spell, nothing, by_name, by_dash, passed_over}
 use Rattle.unlang_tree.specs.WrittenGroups.{Begins, group, redundant, load_balance, redundant_load_balance, IsPair, group_from, return_from, SpellBlock, nothing_more, calls, returns, acts, nests, lays_out, Around, alone, around, LeadsBack, calls_itself, leads, arm_from, if_from, IsAsking, chooses, SpellArms, no_more_arms, passes, or_if, otherwise}
 use Rattle.unlang_cond.specs.Trees.{Tree}
@@ -31,7 +31,7 @@ use Rattle.unlang_tree.specs.declared.statement.Arm.{Arm}
 use Rattle.unlang_tree.specs.declared.words.ArmWord.{ArmWord}
 use Rattle.unlang_tree.specs.declared.words.ArmWord.TheVariants as arm
 use Rattle.unlang_tree.specs.Arms.{is_later_arm, is_last_open, not_stray, condition_at}
-use Rattle.unlang_tree.proofs.ArmLemmas.{word_not_later, block_not_later, not_later_stands, plain_also, also_plain, last_open, if_at, if_open, later_joined, later_stands}
+use Rattle.unlang_tree.proofs.ArmLemmas.{word_not_later, not_later_stands, plain_also, also_plain, last_open, if_at, if_open, later_joined, later_stands}
 use Rattle.unlang_tree.proofs.WrittenArms.{BeginsArm, by_if, by_elsif, by_else, first_arm, elsif_later, else_later, if_asks, elsif_asks, else_asks, arm_read}
 use Rattle.unlang_tree.proofs.BlockWords.{acting, IsPlain, word_no_pair, word_plain, block_no_pair, block_plain, pair_is, is_group, overridden, no_action, none_first, counted, opens, no_level, no_braces, no_body, is_fresh, is_loop}
 use Rattle.unlang_tree.proofs.GroupLevels.{some_within}

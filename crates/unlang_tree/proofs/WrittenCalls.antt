@@ -20,7 +20,7 @@ use Rattle.unlang_tree.specs.Sites.{Site}
 use Rattle.unlang_tree.specs.Statements.{one_statement, counted_call, word_at}
 use Rattle.unlang_tree.specs.PolicyCalls.{policy_called}
 use Rattle.unlang_tree.specs.Depths.{Depth, at_the_top}
-use Rattle.unlang_tree.specs.Groups.{Opener, plain_block, plain_statement, group_block, arm_or_plain, block_or_plain, called_or_not, statement_by, opened_at, statement_at, and_also, with_statement, statements_of}
+use Rattle.unlang_tree.specs.Groups.{Opener, plain_block, plain_statement, group_block, arm_or_plain, block_or_plain, called_or_not, statement_by, opened_at, statement_at, with_statement, statements_of}
 use Rattle.unlang_tree.specs.declared.statements.Counted.{Counted}
 use Rattle.unlang_tree.specs.declared.groups.Members.{Members}
 use Rattle.rad_words.specs.declared.sections.Section.TheVariants as which
@@ -30,7 +30,7 @@ use Rattle.unlang_tree.specs.declared.servers.Known.{Known}
 use Rattle.unlang_tree.specs.Sections.{subsection_block, with_one, with_part, section_block, with_section, with_item, server_of}
 use Rattle.unlang_tree.specs.Policies.{server_block, with_server, servers_of}
 use Rattle.unlang_tree.specs.Written.{IsWord, IsBlock, IsFree, IsCallable, call_from, Spell, nothing, by_name, by_dash, passed_over, IsUnknown}
-use Rattle.unlang_tree.specs.Arms.{is_last_open, is_later_arm}
+use Rattle.unlang_tree.specs.Arms.{is_last_open}
 use Rattle.unlang_tree.proofs.ArmLemmas.{word_no_arm, word_not_later, not_later_stands, plain_also, also_plain, call_closed}
 
 neither : (a b : Bool) → (a || b) ≡ false → (a ≡ false) × (b ≡ false)

@@ -5,7 +5,6 @@ use Rattle.rad_conf.specs.declared.tree.Node.{Node}
 use Rattle.rad_conf.specs.declared.tree.Item.{out-Item}
 use Rattle.rad_conf.specs.declared.tree.Item.TheOpen as level
 use Rattle.rad_dict.specs.Definitions.{Definitions}
-use Rattle.rad_text.specs.Read.{◌>>=◌}
 use Rattle.unlang_cond.specs.declared.fault.CondFault.{CondFault}
 use Rattle.unlang_cond.specs.declared.fault.CondFault.TheVariants as told
 use Rattle.unlang_cond.specs.Trees.{Tree}
@@ -14,7 +13,7 @@ use Rattle.unlang_tree.specs.declared.fault.TreeFault.{TreeFault}
 use Rattle.unlang_tree.specs.declared.fault.TreeFault.TheVariants as fault
 use Rattle.unlang_tree.specs.declared.words.ArmWord.{ArmWord}
 use Rattle.unlang_tree.specs.declared.words.ArmWord.TheVariants as word
-use Rattle.unlang_tree.specs.declared.statement.Arm.{Arm, out-Arm, roll-Arm}
+use Rattle.unlang_tree.specs.declared.statement.Arm.{Arm, out-Arm}
 use Rattle.unlang_tree.specs.declared.statement.Statement.{Statement}
 use Rattle.unlang_tree.specs.declared.statement.StatementKind.{StatementKind, out-StatementKind}
 use Rattle.unlang_tree.specs.declared.statement.StatementKind.TheVariants as kinds

@@ -1,7 +1,7 @@
 -- The statements of a section, with blocks and policies within one another: `group`, `redundant`, `load-balance`,
 -- `redundant-load-balance`, `if` with its `elsif` and `else`, and the calls of policies. After the manual page unlang(5). What stands within a statement is read
 -- by a reader that is handed in.
-use Rattle.std.specs.Prelude.{ℕ, zero, suc, Bool, true, false, ◌&&◌, ◌-◌, List, [], ◌∷◌, ◌++◌, Option, option_map, Some, None, Result, Ok, Err, codes, if◌then◌else◌}
+use Rattle.std.specs.Prelude.{ℕ, zero, suc, Bool, true, false, ◌&&◌, ◌-◌, List, [], ◌∷◌, Option, option_map, Some, None, Result, Ok, Err, codes, if◌then◌else◌}
 use Rattle.std.specs.Str.{str_eq_ignore_ascii_case}
 use Rattle.rad_outside.specs.declared.files.Place.{Place}
 use Rattle.rad_conf.specs.declared.tree.Word.{Word}
