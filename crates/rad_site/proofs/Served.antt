@@ -18,7 +18,8 @@ use Rattle.unlang_tree.specs.declared.fault.TreeFault.{TreeFault}
 use Rattle.unlang_tree.specs.Instances.{Instance}
 use Rattle.unlang_tree.specs.Policies.{policies_of}
 use Rattle.unlang_tree.specs.Sites.{Site}
-use Rattle.unlang_tree.proofs.CallsMet.{each_wider, servers_met}
+use Rattle.unlang_tree.proofs.EachWider.{each_wider}
+use Rattle.unlang_tree.proofs.CallsMet.{servers_met}
 use Rattle.unlang_tree.specs.EachCall.{EachCall, EachCallIn, EachCallOfSections, EachCallOf, IsMet}
 use Rattle.unlang_code.specs.declared.section_id.SectionId.{SectionId}
 use Rattle.unlang_code.specs.Sections.{is_of_kind, section_in, statements_in, statements_of}
