@@ -41,6 +41,7 @@ module _ {M : Type 0} (meaning : Meaning M) (lawful : (m : M) (dict : Definition
     joined = λ a b c first second. second ∙ first;
     noted = λ s t answer keeps. keeps;
     chose = λ s t keeps. keeps;
+    captured = λ s scope only. ap (λ (x : Scope). x.moment) only;
   }
 
   module_keeps : (kind : Section) (m : Option M) (s : Situation) → Keeps s (module_done meaning dict kind m s)

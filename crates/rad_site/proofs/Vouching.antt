@@ -14,9 +14,12 @@ use Rattle.rad_tables.specs.declared.action_table.Action.TheVariants as action
 use Rattle.rad_tables.specs.declared.group_kind.GroupKind.{GroupKind}
 use Rattle.rad_tables.specs.declared.group_kind.GroupKind.TheVariants.{Plain, Redundant}
 use Rattle.rad_value.specs.PairLists.{PairLists}
+use Rattle.rad_value.specs.declared.scope.Scope.{Scope}
 use Rattle.rad_dict.specs.Definitions.{Definitions}
 use Rattle.mod_base.specs.Situation.{Situation}
 use Rattle.unlang_tree.specs.declared.update.Line.{Line}
+use Rattle.unlang_cond.specs.Tests.{OnlyCaptures}
+use Rattle.unlang_tree.specs.declared.statement.Arm.{Arm}
 use Rattle.unlang_tree.specs.declared.statement.Call.{Call}
 use Rattle.unlang_tree.specs.declared.statement.GroupForm.{GroupForm}
 use Rattle.unlang_tree.specs.declared.statement.GroupForm.TheVariants as form
@@ -24,7 +27,9 @@ use Rattle.unlang_tree.specs.declared.statement.Override.{Override}
 use Rattle.unlang_tree.specs.declared.statement.Statement.{Statement}
 use Rattle.unlang_code.specs.Judgement.{child_of, ends, ending_code, heavier, heaviest, priority_of, judged, default_code}
 use Rattle.unlang_code.specs.Leaves.{Calls, Edits, EachLeaf}
-use Rattle.unlang_code.specs.Run.{Outcome, Piece, nothing, returned, updated, called_of, called, is_over, and_then, behind, block_of, picked, alone, rotated, chosen, balanced_in, formed, child_by, grouped, in_scope, begun, statement_done, section_done}
+use Rattle.unlang_code.specs.Choosing.{Test, first_met, met_or}
+use Rattle.unlang_code.proofs.Asking.{met_captures}
+use Rattle.unlang_code.specs.Run.{arm_asked, arm_done, if_done, taken, Outcome, Piece, nothing, returned, updated, called_of, called, is_over, and_then, behind, block_of, picked, alone, rotated, chosen, balanced_in, formed, child_by, grouped, in_scope, begun, statement_done, section_done}
 use Rattle.rad_site.specs.declared.site_module.SiteModule.{SiteModule}
 use Rattle.rad_site.specs.SiteModules.{site_module}
 use Rattle.rad_site.specs.declared.site_module.SiteModule.TheVariants as site
@@ -46,6 +51,10 @@ Child = GivenTo ends
 pub record Alike (s t : Situation) : Type 0 where
   pub lists : t.scope.lists ≡ s.scope.lists
   pub authenticator : t.scope.authenticator ≡ s.scope.authenticator
+
+-- Conditions change the captures alone.
+captures_alike : (s : Situation) (scope : Scope) → OnlyCaptures s.scope scope → Alike s (in_scope scope s)
+captures_alike s scope only = record { lists = ap (λ (x : Scope). x.lists) only; authenticator = ap (λ (x : Scope). x.authenticator) only }
 
 alike_then : (a b c : Situation) → Alike a b → Alike b c → Alike a c
 alike_then a b c first second = record { lists = second.lists ∙ first.lists; authenticator = second.authenticator ∙ first.authenticator }
@@ -133,6 +142,28 @@ module _ (Has : List ℕ → PairLists → Type 0) where
   formed_sound form.RedundantLoadBalance pieces all s = balanced_sound Redundant pieces all s
   formed_sound form.Policy pieces all s = block_sound Plain pieces all s
 
+  -- the block of an arm is a sound one, or there is none
+  abbrev SoundIf : Option Piece → Type 0
+  SoundIf None = Unit {0}
+  SoundIf (Some piece) = Sound piece
+
+  met_sound_by : (arm : Test × Piece) (arms : List (Test × Piece)) → Sound arm.1 → ((scope : Scope) → SoundIf (first_met arms scope).0) → (asked : Bool × Scope) → SoundIf (met_or arm.1 (first_met arms) asked).0
+  met_sound_by arm arms here more (true, scope) = here
+  met_sound_by arm arms here more (false, scope) = more scope
+
+  met_sound : (arms : List (Test × Piece)) → AllByRecursion (λ (arm : Test × Piece). Sound arm.1) arms → (scope : Scope) → SoundIf (first_met arms scope).0
+  met_sound [] all scope = tt
+  met_sound (arm ∷ arms) all scope = met_sound_by arm arms all.0 (met_sound arms all.1) (arm.0 scope)
+
+  taken_sound : (met : Option Piece × Scope) → SoundIf met.0 → (kind : GroupKind) (s : Situation) → OnlyCaptures s.scope met.1 → IsSound s (taken met kind s)
+  taken_sound (None, scope) sound kind s only = record { alike = captures_alike s scope only; children = tt }
+  taken_sound (Some piece, scope) sound kind s only =
+      let now = in_scope scope s in
+      let done = sound kind now in record {
+        alike = alike_then s now (piece kind now).situation (captures_alike s scope only) done.alike;
+        children = vouch_from s now (piece kind now).children (captures_alike s scope only) done.children;
+      }
+
   by_last : (s : Situation) (children : List Child) (last : Option Child) → AllByRecursion (Vouches s) children → find ends children ≡ last
       → (elim last as (λ _. Option Code) [ Some c ↦ Some (ending_code c) | None ↦ option_map (λ (c : Child). c.code) (heaviest children) ]) ≡ Some code.Ok → HasIn s
   by_last s children (Some last) all at is =
@@ -205,11 +236,18 @@ module _ (stack : List SiteModule) (dict : Definitions) (IsOfKind : SiteModule �
         children = by_code Has s Authenticate kind overrides (judged (formed shape pieces s).children) (judged_sound Has s (formed shape pieces s).children sound.children);
       }
 
+  if_held : (arms : List Arm) → AllByRecursion (λ (arm : Test × Piece). Sound Has arm.1) (map (arm_asked site_module stack dict Authenticate) arms) → Sound Has (if_done site_module stack dict Authenticate arms)
+  if_held arms all kind s =
+      let asked = map (arm_asked site_module stack dict Authenticate) arms in
+      taken_sound Has (first_met asked s.scope) (met_sound Has asked all s.scope) kind s (met_captures dict (arm_done site_module stack dict Authenticate) arms s.scope)
+
   handed_on : IsHandedOn site_module stack dict Authenticate (CallsOnly IsOfKind stack) (Sound Has)
   handed_on = record {
     calls = call_sound;
     returns = λ kind s. record { alike = record { lists = refl; authenticator = refl }; children = tt };
     updates = update_sound;
+    arms = λ pieces all. block_held form.Group [] pieces all;
+    ifs = if_held;
     blocks = block_held;
   }
 
