@@ -81,7 +81,6 @@ module _ {M : Type 0} (meaning : Meaning M) (stack : List M) (dict : Definitions
   kind_held level.Return each = subst Holds (sym (fold-roll-StatementKind Piece (Test × Piece) Piece Piece (kind_step meaning stack dict section) (arm_step dict section) (group_step section) statement_step level.Return)) on.returns
   kind_held (level.Update lines) each =
       subst Holds (sym (fold-roll-StatementKind Piece (Test × Piece) Piece Piece (kind_step meaning stack dict section) (arm_step dict section) (group_step section) statement_step (level.Update lines))) (on.updates lines (subst (AllByRecursion Asked) (fold-roll-StatementKind (List Leaf) (List Leaf) (List Leaf) (List Leaf) kind_leaves arm_leaves group_leaves statement_leaves (level.Update lines)) each))
-
   kind_held (level.If arms) each =
       let plain = map (λ e. e.0) arms in
       subst Holds (sym (fold-roll-StatementKind Piece (Test × Piece) Piece Piece (kind_step meaning stack dict section) (arm_step dict section) (group_step section) statement_step (level.If plain) ∙ ap branched (by_arms meaning stack dict section plain)))
