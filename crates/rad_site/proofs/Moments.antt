@@ -1,7 +1,7 @@
 -- No section changes the moment of its request.
 use Rattle.std.specs.Prelude.{slice_get, unwrap_or}
 use Rattle.std.specs.List.{AllByRecursion}
-use Rattle.std.proofs.Common.{◌≡◌, List, [], ◌∷◌, Option, Some, None, refl, ◌∙◌}
+use Rattle.std.proofs.Common.{◌≡◌, List, [], ◌∷◌, Option, Some, None, refl, ap, ◌∙◌}
 use Rattle.rad_words.specs.declared.sections.Section.{Section}
 use Rattle.rad_tables.specs.declared.group_kind.GroupKind.TheVariants.{Plain}
 use Rattle.rad_value.specs.declared.scope.Scope.{Scope}
