@@ -1,6 +1,7 @@
 pub mod Judgement
 pub mod Sections
 pub mod Updates
+pub mod Choosing
 pub mod Run
 pub mod Progress
 pub mod Progressing

@@ -5,6 +5,7 @@
 //! Above it stand the programs that serve requests.
 #![tactic(auto)]
 
+mod arms;
 mod judgement;
 mod laws;
 mod members;

@@ -81,6 +81,7 @@ own_name node kind = elim (out-StatementKind kind) [
   | opened.Group group ↦ policy_name node (out-Group group).form
   | opened.Return ↦ None
   | opened.Update lines ↦ None
+  | opened.If arms ↦ None
 ]
 
 -- The subsections with a call that stands for one. Another statement is counted, and is never run.

@@ -31,7 +31,7 @@ const MOST_WITHIN: u32 = 65_536;
 
 /// What was read of what stands within a statement: its own actions, its statements, and how many statements more the server
 /// has room for.
-#[derive(Debug, Drop)]
+#[derive(Drop)]
 pub struct Members {
     pub overrides: Overrides,
     pub statements: Statements,

@@ -37,7 +37,7 @@ pub use laws::{
 pub use mod_base::MethodSet;
 pub use policies::{Policies, SectionTree, Sections, ServerTree, Subsection, Subsections};
 pub use statement::{
-    Call, Group, GroupForm, Override, Overrides, Statement, StatementKind, Statements,
+    Arm, Arms, Call, Group, GroupForm, Override, Overrides, Statement, StatementKind, Statements,
 };
 pub use tree::Tree;
 pub use update::{Line, Lines, Right};

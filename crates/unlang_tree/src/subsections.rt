@@ -19,7 +19,7 @@ use rad_words::Section;
 use std::alloc::Global;
 
 /// What is known of a section: its statements, its subsections, and how many statements more the server has room for.
-#[derive(Debug, Drop)]
+#[derive(Drop)]
 pub struct Parts {
     pub statements: Statements,
     pub subsections: Subsections,
@@ -117,6 +117,7 @@ fn own_name<'a>(node: &'a Node, kind: &StatementKind) -> Option<&'a [u8]>
         StatementKind::Group(group) => policy_name(node, group.form),
         StatementKind::Return => None,
         StatementKind::Update(_) => None,
+        StatementKind::If(_) => None,
     }
 }
 
