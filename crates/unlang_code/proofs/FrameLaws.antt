@@ -100,6 +100,7 @@ module _ {M : Type 0} (meaning : Meaning M) (lawful : (m : M) (dict : Definition
     joined = λ a b c first second. second ∙ first;
     noted = λ s t answer leaves. leaves;
     chose = λ s t leaves. leaves;
+    captured = λ s scope only. ap (λ (x : Scope). values_of attr (list_of x.lists list)) only;
   }
 
   module_leaves : (m : Option M) (s : Situation) → module_edits meaning m list attr ≡ false → Leaves s (module_done meaning dict section m s)

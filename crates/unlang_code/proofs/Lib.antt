@@ -2,6 +2,7 @@ pub mod Judging
 pub mod Judged
 pub mod Pieces
 pub mod Trees
+pub mod Asking
 pub mod Leaving
 pub mod Running
 pub mod Stepping

@@ -54,6 +54,7 @@ lasts = record {
   joined = grows_joined;
   noted = λ s t answer grows. grows;
   chose = λ s t grows. grows;
+  captured = λ s scope only. grows_alone s;
 }
 
 -- a run that moves within its scope alone has made no effect

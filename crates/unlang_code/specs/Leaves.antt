@@ -48,11 +48,11 @@ statement_leaves statement = statement.kind
 
 -- The leaves of a kind of statement, those of the blocks in it too, in order.
 abbrev pub leaves_in : StatementKind → List Leaf
-leaves_in = fold-StatementKind (List Leaf) (List Leaf) (List Leaf) (List Leaf) kind_leaves group_leaves arm_leaves statement_leaves
+leaves_in = fold-StatementKind (List Leaf) (List Leaf) (List Leaf) (List Leaf) kind_leaves arm_leaves group_leaves statement_leaves
 
 -- The leaves of a statement.
 abbrev pub leaves_at : Statement → List Leaf
-leaves_at = fold-Statement (List Leaf) (List Leaf) (List Leaf) (List Leaf) kind_leaves group_leaves arm_leaves statement_leaves
+leaves_at = fold-Statement (List Leaf) (List Leaf) (List Leaf) (List Leaf) kind_leaves arm_leaves group_leaves statement_leaves
 
 -- The leaves of statements, in order.
 abbrev pub leaves_of : List Statement → List Leaf

@@ -187,7 +187,7 @@ abbrev pub arm_block : Section → List Piece → Piece
 arm_block section pieces kind situation = grouped section kind [] (block_of Plain pieces situation)
 
 -- What a kind of statement means, by what the statements in it mean.
-abbrev pub kind_step : {M : Type 0} → Meaning M → List M → Definitions → Section → StatementKind-F Piece Piece (Test × Piece) Piece → Piece
+abbrev pub kind_step : {M : Type 0} → Meaning M → List M → Definitions → Section → StatementKind-F Piece (Test × Piece) Piece Piece → Piece
 kind_step meaning stack dict where_it_stands (level.Call call) = λ kind. called meaning stack dict where_it_stands kind call
 kind_step meaning stack dict where_it_stands (level.Group group) = group
 kind_step meaning stack dict where_it_stands level.Return = λ kind. returned
@@ -195,24 +195,24 @@ kind_step meaning stack dict where_it_stands (level.Update lines) = λ kind. upd
 kind_step meaning stack dict where_it_stands (level.If arms) = branched arms
 
 -- What a block means, by what its statements mean.
-abbrev pub group_step : Section → Group-F Piece Piece (Test × Piece) Piece → Piece
+abbrev pub group_step : Section → Group-F Piece (Test × Piece) Piece Piece → Piece
 group_step section group = λ kind situation. grouped section kind group.overrides (formed group.form group.statements situation)
 
 -- What an arm of an `if` asks, and what its block means, by what its statements mean.
-abbrev pub arm_step : Definitions → Section → Arm-F Piece Piece (Test × Piece) Piece → Test × Piece
+abbrev pub arm_step : Definitions → Section → Arm-F Piece (Test × Piece) Piece Piece → Test × Piece
 arm_step dict section arm = (asks dict arm.condition, arm_block section arm.statements)
 
 -- A statement means what its kind means.
-abbrev pub statement_step : Statement-F Piece Piece (Test × Piece) Piece → Piece
+abbrev pub statement_step : Statement-F Piece (Test × Piece) Piece Piece → Piece
 statement_step statement = statement.kind
 
 -- What a kind of statement means.
 abbrev pub kind_done : {M : Type 0} → Meaning M → List M → Definitions → Section → StatementKind → Piece
-kind_done meaning stack dict section = fold-StatementKind Piece Piece (Test × Piece) Piece (kind_step meaning stack dict section) (group_step section) (arm_step dict section) statement_step
+kind_done meaning stack dict section = fold-StatementKind Piece (Test × Piece) Piece Piece (kind_step meaning stack dict section) (arm_step dict section) (group_step section) statement_step
 
 -- What a statement means.
 abbrev pub statement_done : {M : Type 0} → Meaning M → List M → Definitions → Section → Statement → Piece
-statement_done meaning stack dict section = fold-Statement Piece Piece (Test × Piece) Piece (kind_step meaning stack dict section) (group_step section) (arm_step dict section) statement_step
+statement_done meaning stack dict section = fold-Statement Piece (Test × Piece) Piece Piece (kind_step meaning stack dict section) (arm_step dict section) (group_step section) statement_step
 
 -- What a block means: its members run as its form says, and it is judged in its group by its own code and actions.
 abbrev pub group_done : {M : Type 0} → Meaning M → List M → Definitions → Section → Group → Piece

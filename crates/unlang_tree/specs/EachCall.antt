@@ -38,11 +38,11 @@ statement_step statement = statement.kind
 
 -- The calls of a statement, those of the blocks in it too, in order.
 abbrev pub calls_in_kind : StatementKind → List Call
-calls_in_kind = fold-StatementKind (List Call) (List Call) (List Call) (List Call) kind_step group_step arm_step statement_step
+calls_in_kind = fold-StatementKind (List Call) (List Call) (List Call) (List Call) kind_step arm_step group_step statement_step
 
 -- The calls of a statement with its place, in order.
 abbrev pub calls_in : Statement → List Call
-calls_in = fold-Statement (List Call) (List Call) (List Call) (List Call) kind_step group_step arm_step statement_step
+calls_in = fold-Statement (List Call) (List Call) (List Call) (List Call) kind_step arm_step group_step statement_step
 
 -- The calls of statements, in order.
 abbrev pub calls_of : List Statement → List Call
