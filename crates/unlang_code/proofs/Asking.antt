@@ -1,8 +1,6 @@
 -- What the conditions of an `if` leave of a scope: they set its captures alone.
-use Rattle.std.specs.Prelude.{get_or}
 use Rattle.std.specs.List.{AllByRecursion}
-use Rattle.std.proofs.Common.{◌≡◌, ℕ, ◌+◌, ◌<◌, ◌≤◌, Bool, true, false, cond, List, [], ◌∷◌, map, length, drop, Option, Some, None, refl, sym, ap, subst, ◌∙◌, arith}
-use Rattle.std.proofs.lemmas.List.{drop_more, drop_all}
+use Rattle.std.proofs.Common.{◌≡◌, ℕ, Bool, true, false, cond, List, [], ◌∷◌, map, Option, Some, None, refl, sym, ap, subst, ◌∙◌}
 use Rattle.rad_outside.specs.Moments.{IsInTime}
 use Rattle.rad_value.specs.declared.scope.Scope.{Scope}
 use Rattle.rad_dict.specs.Definitions.{Definitions}
@@ -93,20 +91,8 @@ pub record Stands (dict : Definitions) (before : Scope) (all left : List Arm) (n
 pub captures_keep_time : (before now : Scope) → OnlyCaptures before now → IsInTime before.moment → IsInTime now.moment
 captures_keep_time before now only in_time = subst (λ (scope : Scope). IsInTime scope.moment) (sym only) in_time
 
--- behind the question of an arm: it is taken, or those behind it are asked
-pub behind_arm : (dict : Definitions) (before : Scope) (all : List Arm) (i : ℕ) (arm : Arm) (scope now : Scope) (met : Bool) → i < length all → arm ≡ get_or all i arm
-    → Stands dict before all (drop i all) scope → (met, now) ≡ asks dict (out-Arm arm).condition scope → met_or arm (taken_of dict (drop (i + 1) all)) (met, now) ≡ taken_of dict all before
-behind_arm dict before all i arm scope now met lt is stands answered =
-    ap (met_or arm (taken_of dict (drop (i + 1) all))) answered
-    ∙ ap (λ (left : List Arm). taken_of dict left scope) (sym (drop_more all i arm lt ∙ ap (λ a. a ∷ drop (i + 1) all) (sym is)))
-    ∙ stands.same
-
--- no arm is left
-pub behind_all : (dict : Definitions) (before : Scope) (all : List Arm) (i : ℕ) (now : Scope) → length all ≤ i → Stands dict before all (drop i all) now → taken_of dict all before ≡ (None, now)
-behind_all dict before all i now le stands = sym stands.same ∙ ap (λ (left : List Arm). taken_of dict left now) (drop_all all i le)
-
 module _ (P : Arm → Type 0) where
-  IsSo : Option Arm → Type 0
+  abbrev IsSo : Option Arm → Type 0
   IsSo None = Unit {0}
   IsSo (Some arm) = P arm
 
@@ -115,11 +101,9 @@ module _ (P : Arm → Type 0) where
   taken_by dict arm arms here more (false, scope) = more scope
 
   each_taken : (dict : Definitions) (arms : List Arm) → AllByRecursion P arms → (scope : Scope) → IsSo (taken_of dict arms scope).0
-  unfolding IsSo
   each_taken dict [] all scope = tt
   each_taken dict (arm ∷ arms) all scope = taken_by dict arm arms all.0 (each_taken dict arms all.1) (asks dict (out-Arm arm).condition scope)
 
   -- what is so of each arm is so of the one that is taken
   pub taken_is_so : (dict : Definitions) (arms : List Arm) (scope now : Scope) (arm : Arm) → AllByRecursion P arms → taken_of dict arms scope ≡ (Some arm, now) → P arm
-  unfolding IsSo
   taken_is_so dict arms scope now arm all is = subst (λ (met : Option Arm × Scope). IsSo met.0) is (each_taken dict arms all scope)

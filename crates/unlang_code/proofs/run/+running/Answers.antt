@@ -5,12 +5,15 @@ use Rattle.unlang_tree.specs.EachCall.{calls_in, calls_in_kind, calls_of}
 use Rattle.unlang_code.specs.Run.{kind_done, run_of, rotated}
 use Rattle.unlang_code.specs.Progressing.{done_in, ends_as}
 use Rattle.unlang_code.specs.Serving.{IsServed}
-use Rattle.unlang_tree.proofs.CallsWithin.{calls_of_group}
+use Rattle.unlang_tree.proofs.CallsWithin.{calls_of_group, calls_of_if}
 use Rattle.unlang_tree.specs.declared.statement.Call.{Call}
-use Rattle.unlang_code.proofs.Served.{each_at, size_of_block, halves, most_halves}
+use Rattle.unlang_code.proofs.Served.{each_at, each_arm, each_below, size_of_block, size_of_if, halves, most_halves}
 use Rattle.unlang_tree.proofs.statement.StatementKind.TheLaws as kind
 use denote.Param.Weighed.{at_most, most}
 use Rattle.unlang_tree.proofs.statement.Statement.TheLaws as one
+use Rattle.unlang_tree.proofs.statement.Arm.TheLaws as arm
+use Rattle.unlang_tree.specs.declared.statement.Arm.{Arm, out-Arm}
+use Rattle.unlang_code.specs.Run.{if_done}
 use Rattle.std.proofs.Common.{arith, take, drop, sym, ap, subst, ◌∙◌}
 use Rattle.mod_base.proofs.Reached.{reaches_start, reaches_joined, reaches_then, reaches_as}
 use Rattle.unlang_tree.specs.declared.statement.Statement.{Statement}
@@ -21,7 +24,7 @@ use Rattle.unlang_code.proofs.Pieces.{finished, ends_is}
 use Rattle.unlang_code.specs.declared.progress.Progress.{Progress}
 use Rattle.unlang_code.specs.declared.progress.Progress.TheVariants.{Going, Over}
 use Rattle.unlang_code.proofs.Balancing.{first_stops, first_done, others_stop, picked_within, none_done, ordered, balanced_done, balanced_stops, reaches_at}
-use Rattle.unlang_code.proofs.Trees.{by_kind, by_call, by_return, by_update, by_group}
+use Rattle.unlang_code.proofs.Trees.{by_kind, by_call, by_return, by_update, by_group, by_if}
 use Rattle.unlang_code.proofs.Running.{on_err, if_err, if_ok, update_reaches, update_stops}
 use Rattle.unlang_code.proofs.Stepping.{left, from_here, goes_on_here, ends_here, stops_here, ends_behind}
 use Rattle.std.proofs.Common.{Some}
@@ -263,3 +266,11 @@ pub run_statement-returns-in_default-clause-ok : goal.run_statement-returns-in_d
 run_statement-returns-in_default-clause-ok g t c =
     let Reached : Piece → Type 0 = λ (p : Piece). Reaches c.args.scope.now (g.W.World.state c.args.world.now) (p c.args.kind) c.run_kind.new.scope (g.W.World.state c.run_kind.new.world) (done_in c.in_ok-done.done) in
     subst Reached (sym (by_kind g.M.Module.meaning c.args.stack.now c.args.dict.now c.args.section c.args.statement.now)) c.in_ok-done.ensures.ok
+
+pub run_kind-run_if-requires : goal.run_kind-run_if-requires
+run_kind-run_if-requires g t c κs within = (omega (arith, c.decreases, ap kind.the_size c.in-If.is, size_of_if c.in-If.arms, ap (most arm.the_size) c.as_slice-in-If.ensures), (search rules, (search rules, (search rules, (subst (AllByRecursion (λ (a : Arm). AllByRecursion (IsServed g.M.Module.meaning c.args.stack.now c.args.section) (calls_of (out-Arm a).statements))) (sym c.as_slice-in-If.ensures) (each_arm (IsServed g.M.Module.meaning c.args.stack.now c.args.section) c.in-If.arms (subst (AllByRecursion (IsServed g.M.Module.meaning c.args.stack.now c.args.section)) (ap calls_in_kind c.in-If.is ∙ calls_of_if c.in-If.arms) c.requires.served)), (c.requires.in_time, c.requires.changes))))))
+
+pub run_kind-returns-in-If-clause-memory : goal.run_kind-returns-in-If-clause-memory
+run_kind-returns-in-If-clause-memory g t c =
+    let Stopped : Piece → Type 0 = λ (p : Piece). OnErr c.run_if.result (Stops c.args.scope.now (g.W.World.state c.args.world.now) (λ s. (p c.args.kind s).situation.effects) (g.W.World.state c.run_if.new.world)) in
+    subst Stopped (ap (if_done g.M.Module.meaning c.args.stack.now c.args.dict.now c.args.section) c.as_slice-in-If.ensures ∙ sym (ap (kind_done g.M.Module.meaning c.args.stack.now c.args.dict.now c.args.section) c.in-If.is ∙ by_if g.M.Module.meaning c.args.stack.now c.args.dict.now c.args.section c.in-If.arms)) c.run_if.ensures.memory
