@@ -15,3 +15,4 @@ pub mod Keeping
 pub mod FrameLaws
 pub mod Lines
 pub mod OtherLists
+pub mod Branching

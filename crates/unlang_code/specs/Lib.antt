@@ -9,3 +9,4 @@ pub mod Serving
 pub mod Frames
 pub mod Leaves
 pub mod Operators
+pub mod Branches
