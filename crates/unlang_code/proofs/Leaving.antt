@@ -226,3 +226,13 @@ module _ (R : Situation → Situation → Type 0) (lasting : IsLasting R) where
 
     pub run_leads : (statements : List Statement) → AllByRecursion LeafLeads (leaves_of statements) → (kind : GroupKind) (s : Situation) → R s (run_of meaning stack dict section kind statements s).situation
     run_leads statements all kind s = block_leads kind (map done_at statements) (each_led statements all) s
+
+    -- the block of an arm leads on where each leaf does, and so does an `if`
+    any_arms : (arms : List Arm) → ((leaves : List Leaf) → AllByRecursion LeafLeads leaves) → AllByRecursion (λ (arm : Test × Piece). Leads arm.1) (map (arm_asked meaning stack dict section) arms)
+    any_arms [] every = tt
+    any_arms (arm ∷ arms) every =
+        let statements = (out-Arm arm).statements in
+        ((λ kind s. block_leads Plain (map done_at statements) (each_led statements (every (leaves_of statements))) s), any_arms arms every)
+
+    pub any_if_leads : (arms : List Arm) → ((leaves : List Leaf) → AllByRecursion LeafLeads leaves) → Leads (if_done meaning stack dict section arms)
+    any_if_leads arms every = if_leads arms (any_arms arms every)

@@ -16,3 +16,4 @@ pub mod FrameLaws
 pub mod Lines
 pub mod OtherLists
 pub mod Branching
+pub mod Taking

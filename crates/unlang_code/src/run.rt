@@ -422,7 +422,8 @@ fn run_if<M: Module, W: World, O: Observer>(
     ensures in_time { OnOk result (IsInTime scope.new.moment) }
     ensures memory { OnErr result (Stops scope.old (W.state world.old) (λ s. (if_done M.meaning stack.now dict.now section arms.now kind s).situation.effects) (W.state world.new)) }
 {
-    match taken_of(alloc, arms, scope, dict)? {
+    let taken = taken_of(alloc, arms, scope, dict)?;
+    match taken {
         Some(arm) => run_arm(
             alloc, stack, section, kind, arm, scope, world, dict, observer,
         ),

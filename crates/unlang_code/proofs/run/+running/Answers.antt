@@ -1,4 +1,9 @@
-use Rattle.std.proofs.Common.{rules, ◌≡◌, ◌++◌, None, OnErr, ◌+◌, length, List}
+use Rattle.std.specs.Option.{option_copied}
+use Rattle.unlang_code.specs.Choosing.{taken_of}
+use Rattle.unlang_code.specs.Serving.{AreServed}
+use Rattle.unlang_code.proofs.Asking.{captures_keep_time, taken_is_so}
+use Rattle.unlang_code.proofs.Taking.{taken_reaches, taken_stops, untaken_reaches, question_stops}
+use Rattle.std.proofs.Common.{rules, ◌≤◌, ◌≡◌, ◌++◌, None, OnErr, ◌+◌, length, List}
 use Rattle.std.specs.List.{AllByRecursion}
 use Rattle.mod_base.specs.Reaching.{Reaches, Stops}
 use Rattle.unlang_tree.specs.EachCall.{calls_in, calls_in_kind, calls_of}
@@ -274,3 +279,36 @@ pub run_kind-returns-in-If-clause-memory : goal.run_kind-returns-in-If-clause-me
 run_kind-returns-in-If-clause-memory g t c =
     let Stopped : Piece → Type 0 = λ (p : Piece). OnErr c.run_if.result (Stops c.args.scope.now (g.W.World.state c.args.world.now) (λ s. (p c.args.kind s).situation.effects) (g.W.World.state c.run_if.new.world)) in
     subst Stopped (ap (if_done g.M.Module.meaning c.args.stack.now c.args.dict.now c.args.section) c.as_slice-in-If.ensures ∙ sym (ap (kind_done g.M.Module.meaning c.args.stack.now c.args.dict.now c.args.section) c.in-If.is ∙ by_if g.M.Module.meaning c.args.stack.now c.args.dict.now c.args.section c.in-If.arms)) c.run_if.ensures.memory
+
+pub run_arm-returns-in_err-ended-clause-memory : goal.run_arm-returns-in_err-ended-clause-memory
+run_arm-returns-in_err-ended-clause-memory g t c = rw (← c.as_slice.ensures) (on_err c.from_residual.result c.in_err-ended.ensures.memory)
+
+pub run_if-run_arm-requires : goal.run_if-run_arm-requires
+run_if-run_arm-requires g t c κs within =
+    let is = subst (λ o. taken_of c.args.dict.now c.args.arms.now c.args.scope.now ≡ (option_copied o, c.taken_of.new.scope)) c.in-Some.is c.in_ok-taken.ensures.taken in
+    let smaller : arm.the_size c.in-Some.arm.now ≤ most arm.the_size c.args.arms.now =
+    taken_is_so (λ (a : Arm). arm.the_size a ≤ most arm.the_size c.args.arms.now) c.args.dict.now c.args.arms.now c.args.scope.now c.taken_of.new.scope c.in-Some.arm.now (each_below arm.the_size c.args.arms.now) is in
+    let served = taken_is_so (λ (a : Arm). AreServed g.M.Module.meaning c.args.stack.now c.args.section (out-Arm a).statements) c.args.dict.now c.args.arms.now c.args.scope.now c.taken_of.new.scope c.in-Some.arm.now c.requires.served is in
+    (omega (arith, c.decreases, smaller), (search rules, (search rules, (search rules, (served, (captures_keep_time c.args.scope.now c.taken_of.new.scope c.taken_of.ensures.alone c.requires.in_time, c.requires.changes))))))
+
+pub run_if-returns-in_err-taken-clause-memory : goal.run_if-returns-in_err-taken-clause-memory
+run_if-returns-in_err-taken-clause-memory g t c =
+    on_err c.from_residual.result (question_stops g.M.Module.meaning g.met.M.Module.lawful c.args.stack.now c.args.dict.now c.args.section c.args.kind c.args.arms.now c.args.scope.now (g.W.World.state c.args.world.now))
+
+pub run_if-returns-in-Some-clause-ok : goal.run_if-returns-in-Some-clause-ok
+run_if-returns-in-Some-clause-ok g t c =
+    let is = subst (λ o. taken_of c.args.dict.now c.args.arms.now c.args.scope.now ≡ (option_copied o, c.taken_of.new.scope)) c.in-Some.is c.in_ok-taken.ensures.taken in
+    if_ok c.run_arm.result (λ value reached. taken_reaches g.M.Module.meaning c.args.stack.now c.args.dict.now c.args.section c.args.kind c.args.arms.now c.args.scope.now c.taken_of.new.scope (g.W.World.state c.args.world.now) c.in-Some.arm.now is c.run_arm.new.scope (g.W.World.state c.run_arm.new.world) value reached) c.run_arm.ensures.ok
+
+pub run_if-returns-in-Some-clause-memory : goal.run_if-returns-in-Some-clause-memory
+run_if-returns-in-Some-clause-memory g t c =
+    let is = subst (λ o. taken_of c.args.dict.now c.args.arms.now c.args.scope.now ≡ (option_copied o, c.taken_of.new.scope)) c.in-Some.is c.in_ok-taken.ensures.taken in
+    if_err c.run_arm.result (taken_stops g.M.Module.meaning c.args.stack.now c.args.dict.now c.args.section c.args.kind c.args.arms.now c.args.scope.now c.taken_of.new.scope (g.W.World.state c.args.world.now) c.in-Some.arm.now is (g.W.World.state c.run_arm.new.world)) c.run_arm.ensures.memory
+
+pub run_if-returns-in-None-clause-ok : goal.run_if-returns-in-None-clause-ok
+run_if-returns-in-None-clause-ok g t c =
+    let is = subst (λ o. taken_of c.args.dict.now c.args.arms.now c.args.scope.now ≡ (option_copied o, c.taken_of.new.scope)) c.in-None.is c.in_ok-taken.ensures.taken in
+    rw c.not_taken.ensures (untaken_reaches g.M.Module.meaning c.args.stack.now c.args.dict.now c.args.section c.args.kind c.args.arms.now c.args.scope.now c.taken_of.new.scope (g.W.World.state c.args.world.now) is)
+
+pub run_if-returns-in-None-clause-in_time : goal.run_if-returns-in-None-clause-in_time
+run_if-returns-in-None-clause-in_time g t c = captures_keep_time c.args.scope.now c.taken_of.new.scope c.taken_of.ensures.alone c.requires.in_time
