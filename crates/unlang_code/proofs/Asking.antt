@@ -54,7 +54,7 @@ question_captures dict None scope = refl
 question_captures dict (Some condition) scope = condition_captures condition scope dict
 
 module _ {X : Type 0} (dict : Definitions) (of_arm : Arm → X) where
-  abbrev asked : Arm → Test × X
+  abbrev pub asked : Arm → Test × X
   asked arm = (asks dict (out-Arm arm).condition, of_arm arm)
 
   behind_question : (arm : X) (others : Scope → Option X × Scope) (scope : Scope) (answer : Bool × Scope) → OnlyCaptures scope answer.1 → ((between : Scope) → OnlyCaptures between (others between).1)
@@ -69,7 +69,7 @@ module _ {X : Type 0} (dict : Definitions) (of_arm : Arm → X) where
       behind_question (of_arm arm) (first_met (map asked arms)) scope (asks dict (out-Arm arm).condition scope) (question_captures dict (out-Arm arm).condition scope) (met_captures arms)
 
   -- what the taken arm is, by the arm
-  abbrev the_arm : Option Arm × Scope → Option X × Scope
+  abbrev pub the_arm : Option Arm × Scope → Option X × Scope
   the_arm (None, scope) = (None, scope)
   the_arm (Some arm, scope) = (Some (of_arm arm), scope)
 
