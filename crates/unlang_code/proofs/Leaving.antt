@@ -183,7 +183,6 @@ module _ (R : Situation → Situation → Type 0) (lasting : IsLasting R) where
     kind_led level.Return each = subst Leads (sym (fold-roll-StatementKind Piece (Test × Piece) Piece Piece (kind_step meaning stack dict section) (arm_step dict section) (group_step section) statement_step level.Return)) (λ kind s. lasting.alike s)
     kind_led (level.Update lines) each =
         subst Leads (sym (fold-roll-StatementKind Piece (Test × Piece) Piece Piece (kind_step meaning stack dict section) (arm_step dict section) (group_step section) statement_step (level.Update lines))) (edit_leads lines (subst (AllByRecursion LeafLeads) (fold-roll-StatementKind (List Leaf) (List Leaf) (List Leaf) (List Leaf) kind_leaves arm_leaves group_leaves statement_leaves (level.Update lines)) each))
-
     kind_led (level.If arms) each =
         let plain = map (λ e. e.0) arms in
         subst Leads (sym (by_if meaning stack dict section plain))
