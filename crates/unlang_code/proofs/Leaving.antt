@@ -24,14 +24,13 @@ use Rattle.unlang_tree.specs.declared.statement.StatementKind.{StatementKind}
 use Rattle.unlang_tree.specs.declared.statement.StatementKind.{roll-StatementKind}
 use Rattle.unlang_tree.specs.declared.statement.StatementKind.TheOpen.{StatementKind-F, Arm-F, Group-F, Statement-F}
 use Rattle.unlang_tree.specs.declared.statement.StatementKind.TheOpen as level
-use Rattle.unlang_tree.specs.declared.statement.StatementKind.TheVariants.{rolls-If}
 use Rattle.unlang_tree.specs.declared.statement.StatementKind.TheFolds.{map-StatementKind, fold-Arm, fold_out-Arm, fold_out-Group, fold-roll-StatementKind, fold-roll-Statement, ind-Statement}
 use Rattle.unlang_cond.specs.Trees.{Tree}
 use Rattle.unlang_cond.specs.Tests.{OnlyCaptures}
 use Rattle.unlang_code.specs.Choosing.{Test, asks, met_or, first_met}
 use Rattle.unlang_code.specs.Run.{kind_step, arm_step, group_step, statement_step, Outcome, Piece, in_scope, with_last, with_choice, updated, called_of, called, is_over, and_then, block_of, picked, alone, rotated, balanced_in, formed, taken, branched, arm_block, group_done, arm_done, arm_asked, if_done, statement_done, kind_done, run_of}
 use Rattle.unlang_code.proofs.Asking.{met_captures}
-use Rattle.unlang_code.proofs.Trees.{by_if}
+use Rattle.unlang_code.proofs.Trees.{by_arms}
 use Rattle.unlang_code.specs.Leaves.{Leaf, Calls, Edits, module_done, leaf_done, leaves_in, leaves_at, leaves_of, kind_leaves, arm_leaves, group_leaves, statement_leaves, joined}
 
 -- a relation of a situation to a later one, which stays where a code is noted, a choice is made or captures are set
@@ -185,8 +184,8 @@ module _ (R : Situation → Situation → Type 0) (lasting : IsLasting R) where
         subst Leads (sym (fold-roll-StatementKind Piece (Test × Piece) Piece Piece (kind_step meaning stack dict section) (arm_step dict section) (group_step section) statement_step (level.Update lines))) (edit_leads lines (subst (AllByRecursion LeafLeads) (fold-roll-StatementKind (List Leaf) (List Leaf) (List Leaf) (List Leaf) kind_leaves arm_leaves group_leaves statement_leaves (level.Update lines)) each))
     kind_led (level.If arms) each =
         let plain = map (λ e. e.0) arms in
-        subst Leads (sym (by_if meaning stack dict section plain))
-        (if_leads plain (arms_led arms (subst (AllByRecursion LeafLeads) (ap leaves_in (sym (rolls-If plain)) ∙ fold-roll-StatementKind (List Leaf) (List Leaf) (List Leaf) (List Leaf) kind_leaves arm_leaves group_leaves statement_leaves (level.If plain)) each)))
+        subst Leads (sym (fold-roll-StatementKind Piece (Test × Piece) Piece Piece (kind_step meaning stack dict section) (arm_step dict section) (group_step section) statement_step (level.If plain) ∙ ap branched (by_arms meaning stack dict section plain)))
+        (if_leads plain (arms_led arms (subst (AllByRecursion LeafLeads) (fold-roll-StatementKind (List Leaf) (List Leaf) (List Leaf) (List Leaf) kind_leaves arm_leaves group_leaves statement_leaves (level.If plain)) each)))
 
     arm_led : (x : Arm-F StatementKind Arm Group Statement) (y : Arm-F ((what : StatementKind) × IsKindLed what) ((arm : Arm) × IsArmLed arm) ((group : Group) × IsGroupLed group) ((one : Statement) × IsLed one))
         → map (λ e. e.0) y.statements ≡ x.statements → IsArmLed (roll-Arm x)

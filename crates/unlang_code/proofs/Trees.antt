@@ -49,7 +49,7 @@ module _ {M : Type 0} (meaning : Meaning M) (stack : List M) (dict : Definitions
   pub by_arm : (arm : Arm) → folded arm ≡ arm_asked meaning stack dict section arm
   by_arm arm = fold_out-Arm Piece (Test × Piece) Piece Piece (kind_step meaning stack dict section) (arm_step dict section) (group_step section) statement_step arm
 
-  by_arms : (arms : List Arm) → map folded arms ≡ map (arm_asked meaning stack dict section) arms
+  pub by_arms : (arms : List Arm) → map folded arms ≡ map (arm_asked meaning stack dict section) arms
   by_arms [] = refl
   by_arms (arm ∷ arms) = rw (by_arm arm, by_arms arms) refl
 

@@ -1,3 +1,4 @@
+use Rattle.std.specs.Prelude.{IfOk}
 use Rattle.std.specs.Option.{option_copied}
 use Rattle.unlang_code.specs.Choosing.{taken_of}
 use Rattle.unlang_code.specs.Serving.{AreServed}
@@ -312,3 +313,18 @@ run_if-returns-in-None-clause-ok g t c =
 
 pub run_if-returns-in-None-clause-in_time : goal.run_if-returns-in-None-clause-in_time
 run_if-returns-in-None-clause-in_time g t c = captures_keep_time c.args.scope.now c.taken_of.new.scope c.taken_of.ensures.alone c.requires.in_time
+
+pub run_kind-returns-in-Call-clause-ok : goal.run_kind-returns-in-Call-clause-ok
+run_kind-returns-in-Call-clause-ok g t c =
+    let Reached : Piece → Type 0 = λ (p : Piece). IfOk c.call.result (λ value. Reaches c.args.scope.now (g.W.World.state c.args.world.now) (p c.args.kind) c.call.new.scope (g.W.World.state c.call.new.world) (done_in value)) in
+    subst Reached (sym (ap (kind_done g.M.Module.meaning c.args.stack.now c.args.dict.now c.args.section) c.in-Call.is ∙ by_call g.M.Module.meaning c.args.stack.now c.args.dict.now c.args.section c.in-Call.called)) c.call.ensures.ok
+
+pub run_kind-returns-in-Group-clause-ok : goal.run_kind-returns-in-Group-clause-ok
+run_kind-returns-in-Group-clause-ok g t c =
+    let Reached : Piece → Type 0 = λ (p : Piece). IfOk c.run_group.result (λ value. Reaches c.args.scope.now (g.W.World.state c.args.world.now) (p c.args.kind) c.run_group.new.scope (g.W.World.state c.run_group.new.world) (done_in value)) in
+    subst Reached (sym (ap (kind_done g.M.Module.meaning c.args.stack.now c.args.dict.now c.args.section) c.in-Group.is ∙ by_group g.M.Module.meaning c.args.stack.now c.args.dict.now c.args.section c.in-Group.group)) c.run_group.ensures.ok
+
+pub run_kind-returns-in-If-clause-ok : goal.run_kind-returns-in-If-clause-ok
+run_kind-returns-in-If-clause-ok g t c =
+    let Reached : Piece → Type 0 = λ (p : Piece). IfOk c.run_if.result (λ value. Reaches c.args.scope.now (g.W.World.state c.args.world.now) (p c.args.kind) c.run_if.new.scope (g.W.World.state c.run_if.new.world) (done_in value)) in
+    subst Reached (ap (if_done g.M.Module.meaning c.args.stack.now c.args.dict.now c.args.section) c.as_slice-in-If.ensures ∙ sym (ap (kind_done g.M.Module.meaning c.args.stack.now c.args.dict.now c.args.section) c.in-If.is ∙ by_if g.M.Module.meaning c.args.stack.now c.args.dict.now c.args.section c.in-If.arms)) c.run_if.ensures.ok
