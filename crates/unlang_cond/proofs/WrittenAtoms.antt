@@ -28,6 +28,7 @@ use Rattle.unlang_cond.specs.Sides.{side_at}
 use Rattle.unlang_cond.specs.Atoms.{is_name, constant_of, named_lead, flag_at, pattern_at, compared, compared_at, looked_at, related, atom_at}
 use Rattle.unlang_cond.specs.Outlines.{unplaced}
 use Rattle.unlang_cond.specs.Written.{IsGap, nothing, space, tab, IsBare, last_joins, is_parted, constant_name, comparison_sign, look_sign, flag, IsQuotedSide, single, double, IsLeft, left_reference, left_name, left_quoted, IsOperand, against_reference, against_value, against_expansion, IsAtom, constant, returned, present, values, texts, look}
+use Rattle.rad_words.proofs.CodesNamed.{codes_are_read}
 use Rattle.unlang_cond.proofs.WrittenWords.{Follows, word_len, marked_len, taken, left_over, bare_apart, Front, front_of, marked_front, front_append, Ends, at_end, at_space, at_tab, at_close, at_and, at_or, ends_follow, gap_passed}
 use Rattle.unlang_cond.proofs.WrittenSides.{quoted_end, behind_quote, quoted_read, begins_quoted, quoted_front, right_read, right_front}
 
