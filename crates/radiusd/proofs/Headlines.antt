@@ -21,7 +21,7 @@ use Rattle.rad_serve.specs.History.{state_after, Installs}
 use Rattle.radiusd.specs.Loading.{listener_of, TriesInstall}
 use Rattle.rad_serve.specs.Told.{KitTells, Told, GrowsBy}
 use Rattle.rad_serve.specs.Leaving.{Leaves, IsAtEnd}
-use Rattle.radiusd.specs.Printing.{Prints}
+use Rattle.rad_outside.specs.Printing.{Prints}
 use Rattle.radiusd.specs.Course.{Course, Serving, Takes, BeginsWithInstall, IsExcused, Call, call_of, lines_of}
 use Rattle.rad_serve.specs.Serving.{GoesOn}
 use Rattle.radiusd.specs.Headline.{Headline, IsNamed}

@@ -17,13 +17,13 @@ use Rattle.radiusd.specs.OrderSeen.{OrderSeen}
 use Rattle.radiusd.specs.declared.order.Task.{Task}
 use Rattle.radiusd.specs.declared.order.Task.TheVariants.{Check, Serve}
 use Rattle.radiusd.specs.Words.{both, order_in, folder_in}
-use Rattle.radiusd.specs.Printing.{Prints}
+use Rattle.rad_outside.specs.Printing.{Prints}
 use Rattle.radiusd.specs.Course.{IsCourse, Unbuilt, Checked, Serving, fault_line, HasDeafWire}
 use Rattle.radiusd.specs.ExitStatuses.{number_of, status_of, IsServing}
 use Rattle.radiusd.specs.Statuses.{IsSiteFault, IsRefused, FaultGives, SiteGives, NothingFailed, IsListed}
 use Rattle.rad_serve.specs.History.{IsFull}
 use Rattle.rad_outside.proofs.Tellings.{Tells-same, Tells-weaker}
-use Rattle.radiusd.proofs.Printings.{Prints-weaker}
+use Rattle.rad_outside.proofs.Printings.{Prints-weaker}
 
 -- the status of a fault of the configuration is that of a site's own fault alone
 IsSiteFault-by_status : (wrong : BuildFault) → status_of wrong ≡ status.Configuration → IsSiteFault wrong

@@ -19,7 +19,7 @@ use Rattle.radiusd.specs.Course.{Course, IsCourse, Takes, IsExcused, lines_of}
 use Rattle.rad_serve.specs.History.{state_after}
 use Rattle.rad_serve.specs.Leaving.{Leaves, IsAtEnd}
 use Rattle.rad_site.specs.Meaning.{site_meaning}
-use Rattle.radiusd.specs.Printing.{Prints}
+use Rattle.rad_outside.specs.Printing.{Prints}
 use Rattle.rad_site.specs.Site.{Site}
 use Rattle.rad_serve.specs.Told.{KitTells, Hears, Sends, GrowsBy, IsAt}
 

@@ -13,7 +13,7 @@ use Rattle.radiusd.specs.Course.{fault_line, HasDeafWire}
 use Rattle.rad_serve.specs.History.{IsFull}
 use Rattle.radiusd.specs.Loading.{TriesInstall}
 use Rattle.radiusd.specs.Lines.{checked_line}
-use Rattle.radiusd.specs.Printing.{Prints, PrintsWhole}
+use Rattle.rad_outside.specs.Printing.{Prints, PrintsWhole}
 use Rattle.rad_site.specs.Site.{Site}
 use Rattle.radiusd.specs.declared.order.Task.TheVariants.{Check}
 use Rattle.radiusd.specs.Words.{order_in, folder_in}
