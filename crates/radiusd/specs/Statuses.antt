@@ -4,8 +4,8 @@ use Rattle.rad_outside.specs.declared.crew.Kit.{Kit}
 use Rattle.rad_outside.specs.Telling.{Tells, Rose}
 use Rattle.rad_outside.specs.Files.{FilesTold, begun}
 use Rattle.rad_core.specs.declared.entry.Entry.{Entry}
-use Rattle.rad_site.specs.declared.fault.BuildFault.{BuildFault}
-use Rattle.rad_site.specs.declared.fault.BuildFault.TheVariants as fault
+use Rattle.rad_build.specs.declared.fault.BuildFault.{BuildFault}
+use Rattle.rad_build.specs.declared.fault.BuildFault.TheVariants as fault
 use Rattle.radiusd.specs.declared.status.Status.{Status}
 use Rattle.radiusd.specs.declared.status.Status.TheVariants as status
 use Rattle.rad_site.specs.Built.{built}

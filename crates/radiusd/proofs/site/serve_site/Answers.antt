@@ -4,7 +4,7 @@ use Rattle.rad_outside.specs.declared.listen.Listen.{Listen}
 use Rattle.rad_outside.specs.Crew.{Handed}
 use Rattle.rad_outside.specs.Telling.{Tells}
 use Rattle.rad_core.specs.declared.entry.Entry.{Entry}
-use Rattle.rad_site.specs.declared.fault.BuildFault.{BuildFault}
+use Rattle.rad_build.specs.declared.fault.BuildFault.{BuildFault}
 use Rattle.radiusd.specs.declared.status.Status.{Status}
 use Rattle.rad_serve.specs.declared.counts.Counts.{Counts}
 use Rattle.rad_serve.specs.Counting.{counts_of}

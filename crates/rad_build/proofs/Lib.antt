@@ -1,0 +1,5 @@
+pub mod BlockItems
+pub mod Finding
+pub mod FileTurns
+pub mod UsersFiles
+pub mod RealmsSaid
