@@ -1,5 +1,5 @@
 -- Auth-Type stays another than `Accept` where nothing can bring it there.
-use Rattle.std.specs.Prelude.{map, filter, not, slice_get}
+use Rattle.std.specs.Prelude.{filter, not, slice_get}
 use Rattle.std.specs.List.{AllByRecursion}
 use Rattle.std.specs.Option.{option_and_then}
 use Rattle.std.proofs.Common.{◌≡◌, ℕ, Bool, true, false, cond, ◌&&◌, List, [], ◌∷◌, ◌++◌, Option, Some, None, refl, sym, ap, subst, ◌∙◌}
@@ -18,34 +18,33 @@ use Rattle.rad_value.specs.declared.values.Pair.{Pair}
 use Rattle.rad_value.specs.declared.values.Value.{Value}
 use Rattle.rad_value.specs.Comparison.{is_equal}
 use Rattle.rad_value.specs.declared.scope.Scope.{Scope}
-use Rattle.rad_value.specs.Edit.{has_attr, edited_by, is_full, tried, lists_edited}
-use Rattle.rad_value.specs.Pairs.{is_of, values_of, text_of, first_text}
-use Rattle.rad_value.specs.PairLists.{PairLists, list_of, with_list}
-use Rattle.rad_value.proofs.EditLaws.{edit-added, edit-appended, edit-cleared, edit-kept, edit-others, edit-removed, edit-set}
+use Rattle.rad_value.specs.Edit.{has_attr, edited_by, tried, lists_edited}
+use Rattle.rad_value.specs.Pairs.{values_of, text_of, first_text}
+use Rattle.rad_value.specs.PairLists.{PairLists, list_of, with_list, same_list}
+use Rattle.rad_value.proofs.EditLaws.{edit-added, edit-appended, edit-cleared, edit-kept, edit-removed, edit-set}
 use Rattle.rad_dict.specs.Definitions.{Definitions}
 use Rattle.rad_dict.proofs.Lookups.{same_attr_is}
 use Rattle.mod_base.specs.Situation.{Situation}
-use Rattle.mod_base.proofs.Frames.{filter_within, values_stay}
+use Rattle.mod_base.proofs.Frames.{values_stay}
 use Rattle.mod_lists.specs.Edits.{text_set, after_edit, edit_or_fail}
 use Rattle.mod_auth.specs.declared.pap.Pap.{Pap}
 use Rattle.mod_auth.specs.declared.chap.Chap.{Chap}
 use Rattle.mod_auth.specs.Pap as pap
 use Rattle.mod_auth.specs.Chap as chap
-use Rattle.unlang_tree.specs.declared.statement.Statement.{Statement}
-use Rattle.unlang_code.specs.Leaves.{Leaf, Calls, Edits, EachLeaf, module_done, leaf_done, LeafKeeps}
+use Rattle.unlang_code.specs.Leaves.{Leaf, Calls, Edits, module_done, LeafKeeps}
 use Rattle.unlang_tree.specs.declared.update.Line.{Line}
 use Rattle.unlang_tree.specs.declared.update.Right.{Right}
 use Rattle.unlang_tree.specs.declared.update.Right.TheVariants as right
 use Rattle.unlang_code.specs.declared.update.Said.{Said}
 use Rattle.unlang_code.specs.declared.update.Said.TheVariants as said
-use Rattle.unlang_code.specs.Updates.{said_by, edit_of, tried_to, done_with}
-use Rattle.unlang_code.specs.Frames.{same_list}
+use Rattle.unlang_code.specs.Updates.{said_by, edit_of, done_with}
 use Rattle.rad_modules.specs.declared.site_module.SiteModule.{SiteModule}
 use Rattle.rad_modules.specs.declared.site_module.SiteModule.TheVariants as site
 use Rattle.rad_access.specs.Attributes.{auth_type}
+use Rattle.rad_access.proofs.Editing.{other_edit, tried_keeps, by_said}
 use Rattle.rad_modules.specs.SiteModules.{site_module}
 use Rattle.rad_modules.specs.SiteLaws.{site_module_lawful}
-use Rattle.rad_access.specs.Passwords.{is_accept, is_accept_value, edit_accepts, right_accepts, module_accepts, call_accepts, leaf_accepts, NeverAccept}
+use Rattle.rad_access.specs.Passwords.{is_accept, is_accept_value, edit_accepts, right_accepts, module_accepts, call_accepts, leaf_accepts}
 
 abbrev IsOther : Value → Type 0
 IsOther value = is_accept_value value ≡ false
@@ -80,25 +79,13 @@ own_edit op.Remove pair pairs other all = subst (AllByRecursion IsOther) (sym (e
 own_edit op.RemoveAll pair pairs other all = subst (AllByRecursion IsOther) (sym (edit-cleared pair pairs)) tt
 own_edit op.Keep pair pairs other all = subst (AllByRecursion IsOther) (sym (edit-kept pair pairs)) (some_of_all (λ v. is_equal v pair.value) (values_of pair.attr pairs) all)
 
--- an edit of another attribute
-other_pair : (own : AttrId) → same_attr auth_type own ≡ false → (pair : Pair) → is_of auth_type pair ≡ true → not (is_of own pair) ≡ true
-other_pair own other pair is = rw (same_attr_is pair.attr auth_type is) (rw other refl)
-
-other_edit : (o : EditOp) (pair : Pair) (pairs : List Pair) → same_attr auth_type pair.attr ≡ false → values_of auth_type (edited_by o pair pairs) ≡ values_of auth_type pairs
-other_edit o pair pairs other =
-    let keeps : (Pair → Bool) = λ (p : Pair). not (is_of pair.attr p) in
-    let within = other_pair pair.attr other in
-    ap (map (λ (p : Pair). p.value)) (filter_within (is_of auth_type) keeps within (edited_by o pair pairs)
-    ∙ ap (filter (is_of auth_type)) (edit-others o pair pairs)
-    ∙ sym (filter_within (is_of auth_type) keeps within pairs))
-
 by_attr : (b : Bool) (o : EditOp) (pair : Pair) (pairs : List Pair) → same_attr auth_type pair.attr ≡ b → (b && is_accept_value pair.value) ≡ false → AllByRecursion IsOther (values_of auth_type pairs)
     → AllByRecursion IsOther (values_of auth_type (edited_by o pair pairs))
 by_attr true o pair pairs own other all =
     let same : auth_type ≡ pair.attr = same_attr_is auth_type pair.attr own in
     subst (λ (attr : AttrId). AllByRecursion IsOther (values_of attr (edited_by o pair pairs))) (sym same)
     (own_edit o pair pairs other (subst (λ (attr : AttrId). AllByRecursion IsOther (values_of attr pairs)) same all))
-by_attr false o pair pairs own other all = subst (AllByRecursion IsOther) (sym (other_edit o pair pairs own)) all
+by_attr false o pair pairs own other all = subst (AllByRecursion IsOther) (sym (other_edit auth_type o pair pairs own)) all
 
 by_list : (list : ListName) (attr : AttrId) (o : EditOp) (value : Value) (lists : PairLists) → edit_accepts (record { list = list; attr = attr; op = o; value = value }) ≡ false → Never lists
     → Never (with_list lists list (edited_by o (record { attr = attr; value = value }) (list_of lists list)))
@@ -109,45 +96,30 @@ by_list Control attr o value lists other all = by_attr (same_attr auth_type attr
 edit_never : (edit : Edit) (lists : PairLists) → edit_accepts edit ≡ false → Never lists → Never (lists_edited lists edit)
 edit_never edit lists other all = by_list edit.list edit.attr edit.op edit.value lists other all
 
-which_lists : (t : Bool) (done lists : PairLists) → cond t None (Some done) ≡ Some lists → done ≡ lists
-which_lists true done lists is = absurd (cc)
-which_lists false done lists is = cc
-
-tried_never : (edit : Edit) (before lists : PairLists) → edit_accepts edit ≡ false → tried before edit ≡ Some lists → Never before → Never lists
-unfolding tried
-tried_never edit before lists other is all =
-    subst Never (which_lists (is_full edit.op edit.attr (list_of before edit.list)) (lists_edited before edit) lists is) (edit_never edit before other all)
-
 -- a line of an update
 none_of_both : (a b c : Bool) → (a && b && true) ≡ false → (a && b && c) ≡ false
 none_of_both true true c is = absurd (cc)
 none_of_both true false c is = refl
 none_of_both false b c is = refl
 
-by_tried : (edit : Edit) (scope : Scope) (t : Option PairLists) → edit_accepts edit ≡ false → tried scope.lists edit ≡ t → Never scope.lists → Never (tried_to t scope).0.lists
-by_tried edit scope None other is all = all
-by_tried edit scope (Some lists) other is all = tried_never edit scope.lists lists other is all
-
-by_said : (line : Line) (s : Said) (scope : Scope) → ((v : Value) → s ≡ said.Value v → edit_accepts (edit_of line v) ≡ false) → Never scope.lists → Never (done_with line s scope).0.lists
-by_said line (said.Value v) scope other all = by_tried (edit_of line v) scope (tried scope.lists (edit_of line v)) (other v refl) refl all
-by_said line said.Nothing scope other all = all
-by_said line said.Unreadable scope other all = all
+by_value : (line : Line) (s : Said) (scope : Scope) → ((v : Value) → s ≡ said.Value v → edit_accepts (edit_of line v) ≡ false) → Never scope.lists → Never (done_with line s scope).0.lists
+by_value line s scope other all = by_said Never line s scope (λ v is now. edit_never (edit_of line v) scope.lists (other v is) now) all
 
 by_right : (line : Line) (dict : Definitions) (scope : Scope) (r : Right) → (same_list line.list Control && same_attr auth_type line.attr.id && right_accepts r) ≡ false → Never scope.lists
     → Never (done_with line (said_by dict line.attr r scope) scope).0.lists
 by_right line dict scope (right.Value value) other all =
-    by_said line (said.Value value) scope (λ v is. let same : value ≡ v = cc in subst (λ (w : Value). edit_accepts (edit_of line w) ≡ false) same other) all
+    by_value line (said.Value value) scope (λ v is. let same : value ≡ v = cc in subst (λ (w : Value). edit_accepts (edit_of line w) ≡ false) same other) all
 by_right line dict scope (right.Reference reference) other all =
-    by_said line (said_by dict line.attr (right.Reference reference) scope) scope
+    by_value line (said_by dict line.attr (right.Reference reference) scope) scope
     (λ v is. none_of_both (same_list line.list Control) (same_attr auth_type line.attr.id) (is_accept_value v) other) all
 by_right line dict scope (right.Expansion parts) other all =
-    by_said line (said_by dict line.attr (right.Expansion parts) scope) scope
+    by_value line (said_by dict line.attr (right.Expansion parts) scope) scope
     (λ v is. none_of_both (same_list line.list Control) (same_attr auth_type line.attr.id) (is_accept_value v) other) all
 
 -- a module that sets Auth-Type to its own name
 set_or_fail : (edit : Edit) (answer : Code) (lists : PairLists) (t : Option PairLists) → edit_accepts edit ≡ false → tried lists edit ≡ t → Never lists → Never (after_edit lists (λ edited. (edited, answer)) t).0
 set_or_fail edit answer lists None other is all = all
-set_or_fail edit answer lists (Some next) other is all = tried_never edit lists next other is all
+set_or_fail edit answer lists (Some next) other is all = tried_keeps Never edit lists next (edit_never edit lists other) is all
 
 named_never : (name : List ℕ) (answer : Code) (idle : Bool) (lists : PairLists) → is_accept name ≡ false → Never lists
     → Never (cond idle (lists, code.Noop) (edit_or_fail (text_set Control auth_type name) (λ edited. (edited, answer)) lists)).0

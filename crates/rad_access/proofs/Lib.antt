@@ -1,6 +1,7 @@
 pub mod Found
 pub mod Moments
 pub mod Running
+pub mod Editing
 pub mod AuthTypes
 pub mod ByLeaves
 pub mod Vouching

@@ -1,25 +1,23 @@
 -- A rejected request's reply has no pair of an attribute that is no message and that Post-Auth-Type REJECT doesn't add.
-use Rattle.std.specs.Prelude.{map, filter, not, slice_get, unwrap_or}
+use Rattle.std.specs.Prelude.{map, filter, slice_get, unwrap_or}
 use Rattle.std.specs.List.{AllByRecursion}
-use Rattle.std.proofs.Common.{◌≡◌, ℕ, Bool, true, false, cond, ◌&&◌, List, [], ◌∷◌, Option, Some, None, refl, sym, ap, subst, ◌∙◌}
+use Rattle.std.proofs.Common.{◌≡◌, ℕ, Bool, true, false, cond, ◌&&◌, List, [], ◌∷◌, Option, Some, None, refl, ap, ◌∙◌}
 use Rattle.rad_words.specs.declared.attributes.AttrId.{AttrId}
 use Rattle.rad_words.specs.declared.sections.Section.{Section}
 use Rattle.rad_words.specs.Attribute.{same_attr}
-use Rattle.rad_value.specs.declared.edits.Edit.{Edit}
 use Rattle.rad_value.specs.declared.edits.EditOp.{EditOp}
 use Rattle.rad_value.specs.declared.edits.ListName.{ListName}
 use Rattle.rad_value.specs.declared.edits.ListName.TheVariants.{Request, Reply, Control}
 use Rattle.rad_value.specs.declared.values.Pair.{Pair}
 use Rattle.rad_value.specs.declared.values.Value.{Value}
 use Rattle.rad_value.specs.declared.scope.Scope.{Scope}
-use Rattle.rad_value.specs.Edit.{edited_by, is_full, tried, lists_edited}
+use Rattle.rad_value.specs.Edit.{edited_by}
 use Rattle.rad_value.specs.Pairs.{is_of, values_of}
-use Rattle.rad_value.specs.PairLists.{PairLists, list_of, with_list}
-use Rattle.rad_value.proofs.EditLaws.{edit-others}
+use Rattle.rad_value.specs.PairLists.{PairLists, list_of, with_list, same_list}
 use Rattle.rad_dict.specs.Definitions.{Definitions}
 use Rattle.rad_dict.proofs.Lookups.{same_attr_is}
 use Rattle.mod_base.specs.Situation.{Situation}
-use Rattle.mod_base.proofs.Frames.{filter_within, values_stay}
+use Rattle.mod_base.proofs.Frames.{values_stay}
 use Rattle.unlang_xlat.specs.Texts.{expanded}
 use Rattle.mod_filter.specs.Module.{users_of, key_of}
 use Rattle.mod_filter.proofs.Adding.{none_is_added}
@@ -30,8 +28,7 @@ use Rattle.unlang_code.specs.declared.update.Said.{Said}
 use Rattle.unlang_code.specs.declared.update.Said.TheVariants as said
 use Rattle.unlang_code.specs.Leaves.{Leaf, Calls, Edits, EachLeaf, module_done, LeafKeeps, leaves_of}
 use Rattle.unlang_code.specs.Sections.{statements_of}
-use Rattle.unlang_code.specs.Updates.{said_by, edit_of, tried_to, done_with}
-use Rattle.unlang_code.specs.Frames.{same_list}
+use Rattle.unlang_code.specs.Updates.{said_by, done_with}
 use Rattle.unlang_code.proofs.Keeping.{section_keeps}
 use Rattle.rad_modules.specs.declared.site_module.SiteModule.{SiteModule}
 use Rattle.rad_modules.specs.declared.site_module.SiteModule.TheVariants as site
@@ -39,6 +36,7 @@ use Rattle.rad_access.specs.declared.verdict.Verdict.{Verdict}
 use Rattle.rad_access.specs.declared.verdict.Verdict.TheVariants as verdict
 use Rattle.rad_access.specs.Access.{let_in}
 use Rattle.rad_access.specs.Attributes.{reply_message}
+use Rattle.rad_access.proofs.Editing.{other_edit, by_said}
 use Rattle.rad_access.specs.Decided.{reject_of, kept, posted_for, refused_by, refused, refused_for, with_messages, decided}
 use Rattle.rad_access.specs.Policies.{Policies}
 use Rattle.rad_access.specs.Rejects.{module_adds, call_adds, leaf_adds, RejectNeverAdds, with_reply}
@@ -51,42 +49,14 @@ NoneOf attr lists = values_of attr lists.reply ≡ []
 
 -- ---- edits
 
-other_pair : (attr own : AttrId) → same_attr attr own ≡ false → (pair : Pair) → is_of attr pair ≡ true → not (is_of own pair) ≡ true
-other_pair attr own other pair is = rw (same_attr_is pair.attr attr is) (rw other refl)
-
-other_edit : (attr : AttrId) (o : EditOp) (pair : Pair) (pairs : List Pair) → same_attr attr pair.attr ≡ false → values_of attr (edited_by o pair pairs) ≡ values_of attr pairs
-other_edit attr o pair pairs other =
-    let keeps : (Pair → Bool) = λ (p : Pair). not (is_of pair.attr p) in
-    let within = other_pair attr pair.attr other in
-    ap (map (λ (p : Pair). p.value)) (filter_within (is_of attr) keeps within (edited_by o pair pairs)
-    ∙ ap (filter (is_of attr)) (edit-others o pair pairs)
-    ∙ sym (filter_within (is_of attr) keeps within pairs))
-
 by_list : (attr : AttrId) (list : ListName) (named : AttrId) (o : EditOp) (value : Value) (lists : PairLists) → (same_list list Reply && same_attr attr named) ≡ false → NoneOf attr lists
     → NoneOf attr (with_list lists list (edited_by o (record { attr = named; value = value }) (list_of lists list)))
 by_list attr Request named o value lists other none = none
 by_list attr Reply named o value lists other none = other_edit attr o (record { attr = named; value = value }) lists.reply other ∙ none
 by_list attr Control named o value lists other none = none
 
-which_lists : (t : Bool) (done lists : PairLists) → cond t None (Some done) ≡ Some lists → done ≡ lists
-which_lists true done lists is = absurd (cc)
-which_lists false done lists is = cc
-
-tried_none : (attr : AttrId) (edit : Edit) (before lists : PairLists) → (same_list edit.list Reply && same_attr attr edit.attr) ≡ false → tried before edit ≡ Some lists → NoneOf attr before → NoneOf attr lists
-unfolding tried
-tried_none attr edit before lists other is none =
-    subst (NoneOf attr) (which_lists (is_full edit.op edit.attr (list_of before edit.list)) (lists_edited before edit) lists is)
-    (by_list attr edit.list edit.attr edit.op edit.value before other none)
-
-by_tried : (attr : AttrId) (edit : Edit) (scope : Scope) (t : Option PairLists) → (same_list edit.list Reply && same_attr attr edit.attr) ≡ false → tried scope.lists edit ≡ t → NoneOf attr scope.lists
-    → NoneOf attr (tried_to t scope).0.lists
-by_tried attr edit scope None other is none = none
-by_tried attr edit scope (Some lists) other is none = tried_none attr edit scope.lists lists other is none
-
-by_said : (attr : AttrId) (line : Line) (s : Said) (scope : Scope) → (same_list line.list Reply && same_attr attr line.attr.id) ≡ false → NoneOf attr scope.lists → NoneOf attr (done_with line s scope).0.lists
-by_said attr line (said.Value v) scope other none = by_tried attr (edit_of line v) scope (tried scope.lists (edit_of line v)) other refl none
-by_said attr line said.Nothing scope other none = none
-by_said attr line said.Unreadable scope other none = none
+by_line : (attr : AttrId) (line : Line) (s : Said) (scope : Scope) → (same_list line.list Reply && same_attr attr line.attr.id) ≡ false → NoneOf attr scope.lists → NoneOf attr (done_with line s scope).0.lists
+by_line attr line s scope other none = by_said (NoneOf attr) line s scope (λ v is now. by_list attr line.list line.attr.id line.op v scope.lists other now) none
 
 -- ---- modules, and statements
 
@@ -108,7 +78,7 @@ call_none attr (Some m) dict kind s free none = module_none attr m dict kind s f
 module _ (attr : AttrId) (stack : List SiteModule) (dict : Definitions) (kind : Section) where
   leaf_none : (leaf : Leaf) → leaf_adds stack attr leaf ≡ false → LeafKeeps (NoneOf attr) site_module stack dict kind leaf
   leaf_none (Calls call) free s none = call_none attr (slice_get stack call.instance) dict kind s free none
-  leaf_none (Edits line) free s none = by_said attr line (said_by dict line.attr line.right s.scope) s.scope free none
+  leaf_none (Edits line) free s none = by_line attr line (said_by dict line.attr line.right s.scope) s.scope free none
 
   leaves_none : (leaves : List Leaf) → AllByRecursion (λ leaf. leaf_adds stack attr leaf ≡ false) leaves → AllByRecursion (LeafKeeps (NoneOf attr) site_module stack dict kind) leaves
   leaves_none [] all = tt

@@ -16,7 +16,7 @@ use Rattle.unlang_tree.specs.declared.update.Right.{Right}
 use Rattle.unlang_tree.specs.declared.update.Right.TheVariants as right
 use Rattle.unlang_tree.specs.declared.statement.Statement.{Statement}
 use Rattle.unlang_code.specs.declared.section_id.SectionId.{SectionId}
-use Rattle.unlang_code.specs.Frames.{same_list}
+use Rattle.rad_value.specs.PairLists.{same_list}
 use Rattle.unlang_code.specs.Leaves.{Leaf, Calls, Edits, EachLeaf}
 use Rattle.unlang_code.specs.Sections.{statements_of}
 use Rattle.rad_modules.specs.declared.site_module.SiteModule.{SiteModule}

@@ -5,14 +5,13 @@ use Rattle.rad_words.specs.declared.attributes.AttrId.{AttrId}
 use Rattle.rad_words.specs.Attribute.{same_attr}
 use Rattle.rad_value.specs.declared.edits.ListName.TheVariants.{Reply}
 use Rattle.rad_value.specs.declared.values.Pair.{Pair}
-use Rattle.rad_value.specs.PairLists.{with_list}
+use Rattle.rad_value.specs.PairLists.{with_list, same_list}
 use Rattle.mod_base.specs.Situation.{Situation}
 use Rattle.mod_lists.specs.Done.{with_lists}
 use Rattle.mod_filter.specs.Module.{users_of, filter_writes}
 use Rattle.unlang_tree.specs.declared.statement.Statement.{Statement}
 use Rattle.unlang_tree.specs.declared.update.Line.{Line}
 use Rattle.unlang_code.specs.declared.section_id.SectionId.{SectionId}
-use Rattle.unlang_code.specs.Frames.{same_list}
 use Rattle.unlang_code.specs.Leaves.{Leaf, Calls, Edits, EachLeaf}
 use Rattle.unlang_code.specs.Sections.{statements_of}
 use Rattle.rad_modules.specs.declared.site_module.SiteModule.{SiteModule}

@@ -8,7 +8,8 @@ use Rattle.mod_realm.specs.declared.realms.Realm.{Realm}
 use Rattle.unlang_tree.specs.Instances.{Instance, number_of}
 use Rattle.rad_modules.specs.declared.site_module.SiteModule.{SiteModule}
 use Rattle.rad_modules.specs.declared.site_module.SiteModule.TheVariants as site
-use Rattle.rad_build.specs.Codes.{name_of, is_code_name}
+use Rattle.rad_words.specs.Codes.{code_name}
+use Rattle.rad_build.specs.Codes.{is_code_name}
 use Rattle.rad_modules.specs.SiteModules.{methods_of}
 
 -- The realms of the site, its instances, the modules behind their numbers, and how many instances have a name that is no
@@ -52,8 +53,8 @@ and_module known name m = record {
 -- The modules with that of a return code, where no instance of its name was configured.
 unfoldable pub with_code : Modules → Code → Modules
 with_code known answer =
-    if is_taken known (name_of answer) then known
-    else (if has_room known (name_of answer) then and_module known (name_of answer) (site.Always (record { code = answer })) else known)
+    if is_taken known (code_name answer) then known
+    else (if has_room known (code_name answer) then and_module known (code_name answer) (site.Always (record { code = answer })) else known)
 
 -- The modules with those of three return codes.
 abbrev pub with_three : Modules → Code → Code → Code → Modules

@@ -30,7 +30,7 @@ use Rattle.rad_build.specs.declared.users.EntryFile.{EntryFile}
 use Rattle.rad_build.specs.declared.users.EntryFile.TheVariants as entry_file
 use Rattle.rad_modules.specs.declared.site_module.SiteModule.{SiteModule}
 use Rattle.rad_modules.specs.declared.site_module.SiteModule.TheVariants as site
-use Rattle.rad_build.specs.Codes.{code_named}
+use Rattle.rad_words.specs.Codes.{code_named}
 use Rattle.rad_build.specs.Nodes.{◌>>=◌, refused, bad_setting, formed, after_each}
 use Rattle.rad_build.specs.Items.{setting_of, is_pair_of, pair_named, nodes_of}
 use Rattle.rad_build.specs.RealmBlock.{realms_in}

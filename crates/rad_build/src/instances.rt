@@ -4,7 +4,7 @@ ghost use Rattle.std.specs.Prelude.{◌≡◌, true, false, IfOk};
 ghost use Rattle.std.specs.Arc.{arc_value};
 ghost use Rattle.rad_build.specs.Modules.{no_modules, is_taken, has_room, and_module, with_code, with_three, with_codes};
 
-use crate::codes::{is_code_name, name_of};
+use crate::codes::is_code_name;
 use mod_base::{Always, Module, Stack};
 use mod_realm::Realms;
 use rad_modules::SiteModule;
@@ -123,7 +123,7 @@ impl Modules {
     fn with_code(self, code: Code) -> Result<Modules, NoMemory>
         ensures { IfOk result (λ modules. modules ≡ with_code self code) }
     {
-        let name = name_of(code);
+        let name = code.name();
         if self.is_taken(name) || !self.has_room(name) {
             return Ok(self);
         }

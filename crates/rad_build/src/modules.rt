@@ -12,7 +12,6 @@ ghost use Rattle.rad_build.specs.Sources.{FindsIn};
 ghost use Rattle.rad_build.specs.Modules.{is_taken};
 ghost use Rattle.rad_build.specs.ModulesBlock.{rcode_at, always_by, is_later, plain_module, usual_key, key_or_refused, key_by, entries_module, files_with, file_then_key, key_then_file, is_files_pair, has_key_first, files_module, file_of, module_of, is_realm, realm_module, instance_of, and_room, with_instance, module_block, with_module, with_modules, modules_over, modules_in};
 
-use crate::codes::code_named;
 use crate::instances::Modules;
 use crate::item::{is_pair_of, nodes_of, pair_named, setting_of};
 use crate::realm_settings::{is_realm, realm_module};
@@ -50,7 +49,7 @@ fn rcode_at(node: &Node) -> Option<Code>
     ensures { result ≡ rcode_at node.now }
 {
     match setting_of(node) {
-        Some((_, value)) => code_named(value),
+        Some((_, value)) => Code::named(value),
         None => None,
     }
 }
