@@ -81,12 +81,7 @@ impl Policies {
 
     /// The section of a kind in a server, or its subsection of a name, where it is there.
     #[tactic(auto, unfolding(crate::specs::Access::section_named))]
-    pub fn find(
-        &self,
-        server: &[u8],
-        section: Section,
-        sub: Option<&[u8]>,
-    ) -> Option<SectionId>
+    pub fn find(&self, server: &[u8], section: Section, sub: Option<&[u8]>) -> Option<SectionId>
         ensures found { result ≡ section_named self.now.table server.now section (option_copied sub.entry) }
         ensures stands { IfSome result (HasStatements self.now.table) }
     {

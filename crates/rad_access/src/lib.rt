@@ -15,8 +15,7 @@ mod response;
 mod verdict;
 
 pub use laws::{
-    challenges_let_requests_in, passwords_and_challenges_let_requests_in,
-    passwords_let_requests_in,
+    challenges_let_requests_in, passwords_and_challenges_let_requests_in, passwords_let_requests_in,
 };
 pub use policies::Policies;
 pub use reject_laws::rejected_replies_have_messages_and_what_reject_adds;

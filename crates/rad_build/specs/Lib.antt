@@ -6,7 +6,9 @@ pub mod Numbers
 pub mod Settings
 pub mod ClientBlock
 pub mod RealmBlock
+pub mod Said
 pub mod RealmsSaid
+pub mod ClientsSaid
 pub mod RealmSettings
 pub mod Modules
 pub mod ModulesBlock

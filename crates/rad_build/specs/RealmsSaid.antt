@@ -1,5 +1,5 @@
 -- What a site's realms are, in the words of its blocks. After FreeRADIUS' proxy.conf.
-use Rattle.std.specs.Prelude.{ℕ, ◌≡◌, Bool, false, List, [], ◌∷◌, ◌++◌, Option, None, codes}
+use Rattle.std.specs.Prelude.{ℕ, ◌≡◌, Bool, false, List, Option, None, codes}
 use Rattle.std.specs.List.{list_any}
 use Rattle.std.specs.Option.{option_map}
 use Rattle.std.specs.Str.{bytes_eq}
@@ -33,7 +33,6 @@ said_of node = option_map realm_by (named_block node)
 abbrev pub is_realm_block : Node → Bool
 is_realm_block = is_block (codes "realm")
 
--- Each of these realms has another name, case aside, than those that stand before it, of which some were before the first.
-abbrev pub AreNew : List Realm → List Realm → Type 0
-AreNew before [] = Unit {0}
-AreNew before (one ∷ realms) = (realm_of before one.name ≡ None) × AreNew (before ++ one ∷ []) realms
+-- A realm has another name, case aside, than those that stand.
+abbrev pub HasAnotherName : List Realm → Realm → Type 0
+HasAnotherName known one = realm_of known one.name ≡ None

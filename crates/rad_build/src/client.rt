@@ -6,9 +6,9 @@ ghost use Rattle.rad_build.specs.Items.{set_by};
 ghost use Rattle.rad_build.specs.Nodes.{Gives, formed, refused, after_each};
 ghost use Rattle.rad_build.specs.ClientBlock.{secret_value, no_settings, HasPrefix, is_unbuilt, with_pair, with_setting, client_at};
 
+use crate::fault::BuildFault;
 use crate::item::{is_assignment, named_block, pair_of};
 use crate::refusal::{refuse, refuse_setting};
-use crate::fault::BuildFault;
 use rad_clients::{Network, network_of};
 use rad_conf::Node;
 use rad_outside::{Octets, Place};

@@ -6,10 +6,10 @@ ghost use Rattle.rad_build.specs.Nodes.{Gives, formed, after_each};
 ghost use Rattle.rad_build.specs.Numbers.{port_of, bound_address};
 ghost use Rattle.rad_build.specs.ListenBlock.{kind_of, nothing, with_pair, with_item, usual_port, port_for, listener_of};
 
+use crate::fault::BuildFault;
 use crate::item::{is_assignment, pair_of};
 use crate::numbers::{bound_address, port_of};
 use crate::refusal::refuse_setting;
-use crate::fault::BuildFault;
 use rad_conf::Node;
 use rad_outside::{ListenKind, Peer, Place};
 use std::alloc::Global;

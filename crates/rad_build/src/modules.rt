@@ -12,13 +12,13 @@ ghost use Rattle.rad_build.specs.Sources.{FindsIn};
 ghost use Rattle.rad_build.specs.Modules.{is_taken};
 ghost use Rattle.rad_build.specs.ModulesBlock.{rcode_at, always_by, is_later, plain_module, usual_key, key_or_refused, key_by, entries_module, files_with, file_then_key, key_then_file, is_files_pair, has_key_first, files_module, file_of, module_of, is_realm, realm_module, instance_of, and_room, with_instance, module_block, with_module, with_modules, modules_over, modules_in};
 
+use crate::fault::BuildFault;
 use crate::instances::Modules;
 use crate::item::{is_pair_of, nodes_of, pair_named, setting_of};
 use crate::realm_settings::{is_realm, realm_module};
 use crate::realms::realms_in;
 use crate::refusal::{refuse, refuse_setting, unknown_module};
 use crate::users::{EntryFile, users_by};
-use crate::fault::BuildFault;
 use mod_auth::{Chap, Pap};
 use mod_base::Always;
 use mod_filter::AttrFilter;

@@ -7,9 +7,9 @@ ghost use Rattle.rad_build.specs.Nodes.{Gives, formed, after_each};
 ghost use Rattle.rad_build.specs.ModulesBlock.{is_realm, realm_module};
 ghost use Rattle.rad_build.specs.RealmSettings.{format_named, delimiter_of, no_settings, with_pair, with_setting, parting_of};
 
+use crate::fault::BuildFault;
 use crate::item::{is_assignment, pair_of};
 use crate::refusal::refuse_setting;
-use crate::fault::BuildFault;
 use mod_realm::{RealmFormat, RealmModule, Realms};
 use rad_conf::Node;
 use rad_modules::SiteModule;

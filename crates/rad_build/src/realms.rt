@@ -6,9 +6,9 @@ ghost use Rattle.mod_realm.specs.Realms.{realm_of};
 ghost use Rattle.rad_build.specs.Nodes.{Gives, after_each};
 ghost use Rattle.rad_build.specs.RealmBlock.{is_proxied, with_pair, with_setting, with_named, with_realm, with_item, realms_in};
 
+use crate::fault::BuildFault;
 use crate::item::{is_block, named_block};
 use crate::refusal::{refuse, refuse_setting};
-use crate::fault::BuildFault;
 use mod_realm::Realms;
 use rad_conf::{Item, Node};
 use rad_outside::{NoMemory, Place};

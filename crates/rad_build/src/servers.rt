@@ -6,10 +6,10 @@ ghost use Rattle.std.specs.Str.{bytes_eq};
 ghost use Rattle.rad_build.specs.Nodes.{Gives, after_each};
 ghost use Rattle.rad_build.specs.ServerBlocks.{has_name, is_built, and_listener, is_later, with_listen, section_of, and_section, with_other, with_part, with_item, and_name, few_enough, with_named, and_policy, with_policy, with_server, servers_in};
 
+use crate::fault::BuildFault;
 use crate::item::{is_block, is_section, kind_of, named_block, nodes_of};
 use crate::listen::{Bound, listener_of};
 use crate::refusal::{refuse, refuse_setting};
-use crate::fault::BuildFault;
 use rad_conf::Node;
 use rad_outside::{ListenKind, Octets, Peer, Place};
 use sqlite_items::Items;

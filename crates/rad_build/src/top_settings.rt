@@ -8,10 +8,10 @@ ghost use Rattle.rad_build.specs.Nodes.{Gives, formed, after_each};
 ghost use Rattle.rad_build.specs.Numbers.{number_between};
 ghost use Rattle.rad_build.specs.Settings.{nothing, log_path, with_workers, with_pair, pool_setting, is_pooled, with_pool, with_item, settings_in};
 
+use crate::fault::BuildFault;
 use crate::item::{is_assignment, pair_named, pair_of};
 use crate::numbers::number_between;
 use crate::refusal::refuse_setting;
-use crate::fault::BuildFault;
 use crate::settings::Settings;
 use rad_conf::{Item, Node};
 use rad_outside::{Octets, Place};

@@ -9,10 +9,10 @@ ghost use Rattle.rad_build.specs.ModulesBlock.{form_of, users_in, users_at, file
 ghost use Rattle.mod_users.specs.Users.{says, users_of_text};
 ghost use Rattle.rad_text.specs.Answers.{IsAnswer};
 
+use crate::fault::BuildFault;
 use crate::item::{pair_named, setting_of};
 use crate::path::file_path;
 use crate::refusal::refuse_setting;
-use crate::fault::BuildFault;
 use mod_users::{Users, UsersFault};
 use rad_conf::Node;
 use rad_dict::Dict;

@@ -5,3 +5,4 @@ pub mod Requests
 pub mod Sites
 pub mod Dictionaries
 pub mod Building
+pub mod ClientLaw

@@ -8,10 +8,12 @@
 mod bare_world;
 mod build;
 mod generation;
+mod laws;
 mod policy;
 mod reply;
 
 pub use generation::Generation;
+pub use laws::clients_are_what_their_blocks_say;
 pub use rad_access::{
     challenges_let_requests_in, passwords_and_challenges_let_requests_in,
     passwords_let_requests_in, rejected_replies_have_messages_and_what_reject_adds,

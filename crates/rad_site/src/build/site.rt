@@ -11,7 +11,10 @@ ghost use Rattle.rad_site.specs.Built.{whole_conf, is_unbuilt, none_unbuilt, wit
 use crate::build::policies::policies_in;
 use crate::generation::Generation;
 use rad_access::Policies;
-use rad_build::{BuildFault, Listener, Modules, Settings, client_at, is_block, modules_in, refuse, refuse_setting, servers_in, settings_in};
+use rad_build::{
+    BuildFault, Listener, Modules, Settings, client_at, is_block, modules_in, refuse,
+    refuse_setting, servers_in, settings_in,
+};
 use rad_clients::Clients;
 use rad_conf::{Conf, Node};
 use rad_dict::Dict;
