@@ -6,3 +6,4 @@ pub mod Sites
 pub mod Dictionaries
 pub mod Building
 pub mod ClientLaw
+pub mod Accepting

@@ -13,7 +13,7 @@ mod policy;
 mod reply;
 
 pub use generation::Generation;
-pub use laws::clients_are_what_their_blocks_say;
+pub use laws::{access_accepts_had_the_password, clients_are_what_their_blocks_say};
 pub use rad_access::{
     challenges_let_requests_in, passwords_and_challenges_let_requests_in,
     passwords_let_requests_in, rejected_replies_have_messages_and_what_reject_adds,
