@@ -18,7 +18,7 @@ use Rattle.rad_build.specs.Nodes.{◌>>=◌, refused, formed, after_each}
 use Rattle.rad_build.specs.Items.{is_assignment, pair_of, set_by, setting_of, is_pair_of, pair_named, named_block}
 use Rattle.rad_build.specs.ClientBlock.{secret_value, no_settings, is_unbuilt, with_pair, with_setting, client_at}
 use Rattle.rad_build.specs.ClientsSaid.{set_to, set_in, client_of_parts, client_by, said_client}
-use Rattle.rad_build.proofs.Saying.{behind, same_ok}
+use Rattle.rad_build.proofs.Saying.{behind, given, same_ok}
 
 -- One of two is kept where there is one, and else the other is set.
 kept : {A : Type 0} (o : Option A) → o ≡ option_or o None
@@ -41,7 +41,7 @@ read_pair place name a b u x y n s =
     (cond (b && is_none s) (formed place name y >>= λ v. Ok (both n (Some v)))
     (cond u (refused place) (Ok (both n s))))
 
-ends : (n : Option Network) (s : Option (List ℕ)) (next : Settings) → Ok {E = BuildFault} (both n s) ≡ Ok next → (next.network ≡ n) × (next.secret ≡ s)
+ends : (n : Option Network) (s : Option (List ℕ)) (next : Settings) → given (both n s) ≡ given next → (next.network ≡ n) × (next.secret ≡ s)
 ends n s next is = let same = same_ok (both n s) next is in (ap (λ (k : Settings). k.network) same, ap (λ (k : Settings). k.secret) same)
 
 pair_sets : (place : Place) (name : List ℕ) (a b u : Bool) (x : Option Network) (y : Option (List ℕ)) (n : Option Network) (s : Option (List ℕ)) (next : Settings)
@@ -100,7 +100,7 @@ setting_at known place item = elim (elim item as (λ _. Option (List ℕ × List
   | level.Block kind label body ↦ None
 ]) as (λ _. Result Settings BuildFault) [ None ↦ Ok known | Some pair ↦ with_pair known place pair.0 pair.1 pair.2 ]
 
-passed : (known next : Settings) → Ok {E = BuildFault} known ≡ Ok next → Sets next false None known.network false None known.secret
+passed : (known next : Settings) → given known ≡ given next → Sets next false None known.network false None known.secret
 passed known next is =
     let same = same_ok known next is in
     record { network = ap (λ (k : Settings). k.network) same ∙ kept known.network; secret = ap (λ (k : Settings). k.secret) same ∙ kept known.secret; network_is = λ yes none. absurd (cc); secret_is = λ yes none. absurd (cc) }
@@ -160,7 +160,7 @@ settings_said known last (node ∷ items) is =
 -- what was of its form
 form_of : {A : Type 0} (place : Place) (name : List ℕ) (o : Option A) (x : A) → formed place name o ≡ Ok x → o ≡ Some x
 form_of place name None x is = absurd (cc)
-form_of place name (Some y) x is = ap (λ (z : A). Some z) (sym (same_ok y x is))
+form_of {A = A} place name (Some y) x is = ap (λ (z : A). Some z) (sym (same_ok y x is))
 
 client_parts : (name : List ℕ) (n : Option Network) (s : Option (List ℕ)) (network : Network) (secret : List ℕ) → n ≡ Some network → s ≡ Some secret
     → option_and_then (λ (one : Network). option_map (client_of_parts name one) s) n ≡ Some (client_of_parts name network secret)

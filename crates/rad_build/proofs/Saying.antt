@@ -18,7 +18,7 @@ past true e rest y is = absurd (cc)
 past false e rest y is = (refl, is)
 
 -- what a reading without a fault gives
-abbrev given : {A : Type 0} → A → Result A BuildFault
+abbrev pub given : {A : Type 0} → A → Result A BuildFault
 given x = Ok x
 
 pub same_ok : {A : Type 0} (x y : A) → given x ≡ given y → y ≡ x
