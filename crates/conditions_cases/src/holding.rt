@@ -1,9 +1,10 @@
 //! Conditions that are read and evaluated.
 
-use crate::scopes::{NoScope, Setting, setting_of};
+use crate::scopes::{Setting, setting_of};
 use rad_dict::Dict;
 use rad_outside::{LAST_MOMENT, NoMemory};
 use rad_value::Scope;
+use scope_cases::NoScope;
 use shared_cases::{Case, Subject, push_number};
 use std::alloc::Global;
 use unlang_cond::{Cond, CondFault};

@@ -3,72 +3,12 @@
 //! match, and `nested TIMES FRONT BEHIND`, what stands around the condition so many times.
 
 use rad_dict::Dict;
-use rad_outside::{NoMemory, Octets, Peer};
-use rad_pairs::{PairFault, read_pairs};
-use rad_value::{ListName, Lists, Pair, Scope};
+use rad_outside::{Octets, Peer};
+use rad_value::{ListName, Lists, Scope};
 use rad_words::Code;
+use scope_cases::{NoScope, put};
 use shared_cases::{after_word, decimal};
-use std::alloc::{AllocError, AllocFailed, Global};
-
-/// Why a case has no scope.
-#[derive(Drop)]
-pub enum NoScope {
-    /// It isn't written as its file says.
-    Misspelt,
-    NoMemory,
-}
-
-impl From<NoMemory> for NoScope {
-    fn from(_e: NoMemory) -> NoScope {
-        NoScope::NoMemory
-    }
-}
-
-impl From<AllocError> for NoScope {
-    fn from(_e: AllocError) -> NoScope {
-        NoScope::NoMemory
-    }
-}
-
-impl<T: Drop> From<AllocFailed<T>> for NoScope {
-    fn from(_e: AllocFailed<T>) -> NoScope {
-        NoScope::NoMemory
-    }
-}
-
-/// The pairs of a text.
-fn pairs_of(alloc: Global, text: &[u8], dict: &Dict) -> Result<Vec<Pair>, NoScope> {
-    let items = match read_pairs(alloc, text, dict) {
-        Ok(items) => items,
-        Err(PairFault::NoMemory) => return Err(NoScope::NoMemory),
-        Err(_) => return Err(NoScope::Misspelt),
-    };
-    let mut pairs = Vec::new(alloc);
-    for item in items.into_vec() {
-        pairs.push(Pair {
-            attr: item.attr,
-            value: item.value,
-        })?;
-    }
-    Ok(pairs)
-}
-
-/// Adds the pairs of a text to a list of fewer than 1000.
-fn put(
-    alloc: Global,
-    lists: &mut Lists,
-    list: ListName,
-    text: &[u8],
-    dict: &Dict,
-) -> Result<(), NoScope> {
-    for pair in pairs_of(alloc, text, dict)? {
-        if lists.len(list) >= 1000 {
-            return Err(NoScope::Misspelt);
-        }
-        lists.push(list, pair)?;
-    }
-    Ok(())
-}
+use std::alloc::Global;
 
 /// The scope of a case, and what stands around its condition.
 #[derive(Drop)]
@@ -78,28 +18,6 @@ pub struct Setting {
     pub times: u32,
     pub front: Vec<u8>,
     pub behind: Vec<u8>,
-}
-
-/// The names of the return codes.
-const CODES: [(&[u8], Code); 9] = [
-    (b"reject", Code::Reject),
-    (b"fail", Code::Fail),
-    (b"ok", Code::Ok),
-    (b"handled", Code::Handled),
-    (b"invalid", Code::Invalid),
-    (b"userlock", Code::Userlock),
-    (b"notfound", Code::Notfound),
-    (b"noop", Code::Noop),
-    (b"updated", Code::Updated),
-];
-
-fn code_of(name: &[u8]) -> Result<Code, NoScope> {
-    for (other, code) in CODES {
-        if other == name {
-            return Ok(code);
-        }
-    }
-    Err(NoScope::Misspelt)
 }
 
 /// What stands around the condition.
@@ -133,7 +51,7 @@ fn take(alloc: Global, setting: &mut Setting, part: &[u8], dict: &Dict) -> Resul
         );
     }
     if let Some(name) = after_word(part, b"last") {
-        setting.scope.last = Some(code_of(name)?);
+        setting.scope.last = Some(Code::named(name).ok_or(NoScope::Misspelt)?);
         return Ok(());
     }
     if let Some(text) = after_word(part, b"capture") {

@@ -1,9 +1,10 @@
 //! Expansions that are read and expanded.
 
-use crate::scopes::{NoScope, scope_of};
+use crate::scopes::scope_of;
 use rad_dict::Dict;
 use rad_outside::{LAST_MOMENT, NoMemory, Octets};
 use rad_value::Scope;
+use scope_cases::NoScope;
 use shared_cases::{Case, Subject, push_number};
 use std::alloc::Global;
 use unlang_xlat::{Xlat, XlatFault};

@@ -16,8 +16,8 @@ use Rattle.rad_value.specs.declared.edits.Edit.{Edit}
 use Rattle.rad_value.specs.declared.edits.EditOp.{EditOp}
 use Rattle.rad_value.specs.declared.edits.EditOp.TheVariants as edit
 use Rattle.rad_value.specs.declared.edits.ListName.{ListName}
-use Rattle.rad_value.specs.declared.edits.ListName.TheVariants.{Request, Reply, Control}
-use Rattle.rad_value.specs.PairLists.{PairLists}
+use Rattle.rad_value.specs.declared.edits.ListName.TheVariants.{Reply, Control}
+use Rattle.rad_value.specs.PairLists.{PairLists, same_list}
 use Rattle.rad_value.specs.Edit.{tried}
 use Rattle.rad_dict.specs.Definitions.{Definitions}
 use Rattle.rad_pairs.specs.declared.items.Item.{Item}
@@ -143,18 +143,6 @@ outcome found users key dict lists = done_by found (entries users key dict lists
 -- The lists and the code that the module `files` makes of these lists, with these users, for this key.
 unfoldable pub files_done : List Entry → List ℕ → Definitions → PairLists → PairLists × Code
 files_done users key dict lists = outcome false users key dict lists
-
--- Whether two lists are the same.
-abbrev pub same_list : ListName → ListName → Bool
-same_list Request Request = true
-same_list Request Reply = false
-same_list Request Control = false
-same_list Reply Request = false
-same_list Reply Reply = true
-same_list Reply Control = false
-same_list Control Request = false
-same_list Control Reply = false
-same_list Control Control = true
 
 -- An edit is of this list and attribute.
 abbrev pub edits_that : ListName → AttrId → Edit → Bool

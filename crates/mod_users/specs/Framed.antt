@@ -12,7 +12,7 @@ use Rattle.rad_value.specs.declared.values.Pair.{Pair}
 use Rattle.rad_value.specs.declared.edits.Edit.{Edit}
 use Rattle.rad_value.specs.declared.edits.ListName.{ListName}
 use Rattle.rad_value.specs.declared.edits.ListName.TheVariants.{Request, Reply, Control}
-use Rattle.rad_value.specs.PairLists.{PairLists, list_of}
+use Rattle.rad_value.specs.PairLists.{same_list, PairLists, list_of}
 use Rattle.rad_value.specs.Pairs.{is_of}
 use Rattle.rad_value.specs.Edit.{pair_of, edited, is_full, lists_edited, tried}
 use Rattle.rad_value.proofs.EditLaws.{edit-others, is_of-own}
@@ -25,7 +25,7 @@ use Rattle.unlang_xlat.specs.Texts.{expanded}
 use Rattle.mod_users.specs.declared.entry.Entry.{Entry}
 use Rattle.mod_users.specs.declared.files.FilesModule.{FilesModule}
 use Rattle.mod_users.specs.Fits.{fits}
-use Rattle.mod_users.specs.Files.{entry_edits, all_edits, all_tried, falls_through, entries, files_done, same_list, edits_that, entry_edits_that, frame}
+use Rattle.mod_users.specs.Files.{entry_edits, all_edits, all_tried, falls_through, entries, files_done, edits_that, entry_edits_that, frame}
 use Rattle.mod_users.specs.Module.{users_of, key_of, edits, does}
 
 module _ (within : ListName → AttrId → Bool) where

@@ -5,3 +5,4 @@ pub mod Shelf
 pub mod Sink
 pub mod Crew
 pub mod Moments
+pub mod Printing

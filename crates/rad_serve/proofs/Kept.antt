@@ -7,7 +7,7 @@ use Rattle.rad_core.specs.Requests.{Requests}
 use Rattle.rad_core.specs.Step.{Step}
 use Rattle.rad_core.specs.Behind.{TurnAdds}
 use Rattle.rad_core.proofs.Behind.{alone_adds}
-use Rattle.rad_site.specs.declared.fault.BuildFault.{BuildFault}
+use Rattle.rad_build.specs.declared.fault.BuildFault.{BuildFault}
 use Rattle.rad_site.specs.Site.{Site}
 use Rattle.rad_site.specs.Meaning.{site_meaning}
 use Rattle.rad_serve.specs.declared.counts.Tally.{Tally}

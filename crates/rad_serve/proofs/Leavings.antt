@@ -4,7 +4,7 @@ use Rattle.rad_outside.specs.declared.wire.Heard.TheVariants as heard
 use Rattle.rad_outside.specs.Telling.{Tells}
 use Rattle.rad_core.specs.declared.entry.Entry.TheVariants.{Look, Stop}
 use Rattle.rad_core.specs.Worker.{Placed, At, OnlyServes, is_service}
-use Rattle.rad_site.specs.declared.fault.BuildFault.{BuildFault}
+use Rattle.rad_build.specs.declared.fault.BuildFault.{BuildFault}
 use Rattle.rad_serve.specs.declared.left.Left.{Left}
 use Rattle.rad_serve.specs.declared.left.Left.TheVariants as left
 use Rattle.rad_site.specs.Site.{Site}

@@ -17,7 +17,7 @@ use Rattle.rad_core.specs.declared.entry.Entry.TheVariants.{Look, Stop}
 use Rattle.rad_core.specs.Step.{after, run, IsLegal}
 use Rattle.rad_core.specs.Worker.{Placed, At, placed, Answer, IsOwn}
 use Rattle.rad_core.proofs.Histories.{run-append, placed-append, IsLegal-append}
-use Rattle.rad_site.specs.declared.fault.BuildFault.{BuildFault}
+use Rattle.rad_build.specs.declared.fault.BuildFault.{BuildFault}
 use Rattle.rad_serve.specs.declared.left.Left.{Left}
 use Rattle.rad_serve.specs.declared.left.Left.TheVariants as leaving
 use Rattle.rad_site.specs.Site.{Site}

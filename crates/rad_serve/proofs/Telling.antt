@@ -8,7 +8,7 @@ use Rattle.rad_outside.specs.declared.wire.Heard.TheVariants as heard
 use Rattle.rad_outside.specs.Wire.{WireTold}
 use Rattle.rad_core.specs.Worker.{Answer, Placed, asked}
 use Rattle.rad_core.proofs.Histories.{asked-append}
-use Rattle.rad_site.specs.declared.fault.BuildFault.{BuildFault}
+use Rattle.rad_build.specs.declared.fault.BuildFault.{BuildFault}
 use Rattle.rad_site.specs.Site.{Site}
 use Rattle.rad_serve.specs.Told.{datagram_of, events, taken, answer_of, Hears, Sends, GrowsBy, Datagram}
 use Rattle.rad_serve.specs.Leaving.{HearsLast, StaysOpen, IsOpen}

@@ -8,7 +8,7 @@ use Rattle.rad_outside.specs.Telling.{Tells}
 use Rattle.rad_policy.specs.declared.arrival.Arrived.{Arrived}
 use Rattle.rad_core.specs.Worker.{Placed, Answer, served, answered}
 use Rattle.rad_core.proofs.Histories.{served-append, answered-append, IsClosed-append, HaveOutcomes-append}
-use Rattle.rad_site.specs.declared.fault.BuildFault.{BuildFault}
+use Rattle.rad_build.specs.declared.fault.BuildFault.{BuildFault}
 use Rattle.rad_site.specs.Site.{Site}
 use Rattle.rad_site.specs.Meaning.{site_meaning}
 use Rattle.rad_serve.specs.Told.{Told, KitTells, IsAt, Hears, Sends, GrowsBy}

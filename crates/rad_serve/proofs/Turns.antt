@@ -23,7 +23,7 @@ use Rattle.rad_turn.specs.declared.view.View.{View}
 use Rattle.rad_core.specs.Behind.{TurnAdds}
 use Rattle.rad_core.proofs.Behind.{alone_adds}
 use Rattle.rad_core.proofs.Turns.{IsUnanswered, passes_unanswered, passes_repeat, passes_fresh, held_after_start, fresh_present, moment_after}
-use Rattle.rad_site.specs.declared.fault.BuildFault.{BuildFault}
+use Rattle.rad_build.specs.declared.fault.BuildFault.{BuildFault}
 use Rattle.rad_serve.specs.declared.turn.Reply.{Reply}
 use Rattle.rad_site.specs.Site.{Site}
 use Rattle.rad_site.specs.Meaning.{site_meaning}

@@ -7,7 +7,7 @@ use Rattle.rad_core.specs.State.{ServerState, opening}
 use Rattle.rad_core.specs.declared.entry.Entry.{Entry}
 use Rattle.rad_core.specs.declared.entry.Entry.TheVariants.{Install}
 use Rattle.rad_core.specs.Step.{run, May, IsLegal}
-use Rattle.rad_site.specs.declared.fault.BuildFault.{BuildFault}
+use Rattle.rad_build.specs.declared.fault.BuildFault.{BuildFault}
 use Rattle.rad_serve.specs.declared.counts.Tally.{Tally}
 use Rattle.rad_serve.specs.Counting.{tally_of}
 use Rattle.rad_site.specs.Site.{Site}

@@ -9,7 +9,7 @@ use Rattle.rad_core.specs.declared.seen.Seen.{Seen}
 use Rattle.rad_core.specs.State.{ServerState}
 use Rattle.rad_core.specs.declared.entry.Entry.TheVariants.{Look, Stop}
 use Rattle.rad_core.specs.Worker.{Placed, At, OnlyServes}
-use Rattle.rad_site.specs.declared.fault.BuildFault.{BuildFault}
+use Rattle.rad_build.specs.declared.fault.BuildFault.{BuildFault}
 use Rattle.rad_serve.specs.declared.left.Left.{Left}
 use Rattle.rad_serve.specs.declared.left.Left.TheVariants as left
 use Rattle.rad_site.specs.Site.{Site}

@@ -10,7 +10,7 @@ use Rattle.rad_policy.specs.declared.arrival.Arrived.{Arrived}
 use Rattle.rad_core.specs.declared.entry.Entry.{Entry}
 use Rattle.rad_core.specs.Step.{IsLegal}
 use Rattle.rad_core.specs.Worker.{Answer, placed, IsOwn}
-use Rattle.rad_site.specs.declared.fault.BuildFault.{BuildFault}
+use Rattle.rad_build.specs.declared.fault.BuildFault.{BuildFault}
 use Rattle.rad_serve.specs.declared.left.Left.{Left}
 use Rattle.rad_serve.specs.declared.left.Left.TheVariants as leaving
 use Rattle.rad_serve.specs.declared.serving.Passed.{Passed}

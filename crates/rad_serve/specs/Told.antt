@@ -13,7 +13,7 @@ use Rattle.rad_outside.specs.Telling.{Tells}
 use Rattle.rad_outside.specs.Wire.{WireTold}
 use Rattle.rad_policy.specs.declared.arrival.Arrived.{Arrived}
 use Rattle.rad_core.specs.Worker.{Placed, Answer, served, asked, answered, IsClosed, HaveOutcomes}
-use Rattle.rad_site.specs.declared.fault.BuildFault.{BuildFault}
+use Rattle.rad_build.specs.declared.fault.BuildFault.{BuildFault}
 use Rattle.rad_site.specs.Site.{Site}
 use Rattle.rad_site.specs.Meaning.{site_meaning}
 

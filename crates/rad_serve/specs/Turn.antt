@@ -10,7 +10,7 @@ use Rattle.rad_core.specs.declared.started.Started.TheVariants as started
 use Rattle.rad_core.specs.State.{ServerState}
 use Rattle.rad_core.specs.declared.entry.Entry.{Entry}
 use Rattle.rad_core.specs.Worker.{Answer, Passes}
-use Rattle.rad_site.specs.declared.fault.BuildFault.{BuildFault}
+use Rattle.rad_build.specs.declared.fault.BuildFault.{BuildFault}
 use Rattle.rad_serve.specs.declared.turn.Reply.{Reply}
 use Rattle.rad_serve.specs.declared.turn.Taken.{Taken}
 use Rattle.rad_serve.specs.Counting.{tally_of, with_request}

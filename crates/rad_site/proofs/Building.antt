@@ -9,15 +9,15 @@ use Rattle.rad_conf.specs.declared.tree.Node.{Node}
 use Rattle.rad_conf.specs.Answers.{IsFault}
 use Rattle.rad_conf.specs.Conf.{conf_at}
 use Rattle.rad_policy.specs.Policy.{Sources, IsBuilt}
-use Rattle.rad_site.specs.declared.fault.BuildFault.{BuildFault}
-use Rattle.rad_site.specs.declared.fault.BuildFault.TheVariants as fault
+use Rattle.rad_build.specs.declared.fault.BuildFault.{BuildFault}
+use Rattle.rad_build.specs.declared.fault.BuildFault.TheVariants as fault
 use Rattle.rad_site.specs.Site.{Site}
-use Rattle.rad_site.specs.Nodes.{◌>>=◌}
-use Rattle.rad_site.specs.ConfFault.{fault_of, of_conf}
-use Rattle.rad_site.specs.Sources.{Misses, Finds, FindsIn}
+use Rattle.rad_build.specs.Nodes.{◌>>=◌}
+use Rattle.rad_build.specs.ConfFault.{fault_of, of_conf}
+use Rattle.rad_build.specs.Sources.{Misses, Finds, FindsIn}
 use Rattle.rad_site.specs.Built.{conf_name, dict_at, site_of, built}
 use Rattle.rad_site.specs.Meaning.{site_meaning}
-use Rattle.rad_site.proofs.Finding.{FindsIn-then}
+use Rattle.rad_build.proofs.Finding.{FindsIn-then}
 
 -- what is found in a site's files is what they are built to, unless memory ran out or the files failed
 is_built : (sources : Sources) (answer : Result Site BuildFault) → Finds answer (built sources) → IsBuilt site_meaning sources answer

@@ -10,9 +10,9 @@ use Rattle.rad_dict.specs.Definitions.{Definitions}
 use Rattle.rad_dict.specs.Includes.{dict_from, dict_of}
 use Rattle.rad_conf.specs.Conf.{path_of}
 use Rattle.rad_policy.specs.Policy.{Sources}
-use Rattle.rad_site.specs.declared.fault.BuildFault.{BuildFault}
-use Rattle.rad_site.specs.DictFault.{of_dict}
-use Rattle.rad_site.specs.Sources.{Finds, FindsIn}
+use Rattle.rad_build.specs.declared.fault.BuildFault.{BuildFault}
+use Rattle.rad_build.specs.DictFault.{of_dict}
+use Rattle.rad_build.specs.Sources.{Finds, FindsIn}
 use Rattle.rad_site.specs.Built.{dict_name, dict_at}
 
 -- the dictionary of a file that may be missing

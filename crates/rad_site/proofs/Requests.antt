@@ -16,8 +16,8 @@ use Rattle.rad_policy.specs.declared.outcome.Outcome.{Outcome}
 use Rattle.rad_policy.specs.declared.outcome.Outcome.TheVariants as outcome
 use Rattle.rad_policy.specs.Policy.{Reply}
 use Rattle.rad_policy.specs.Seen.{GivesOutcome}
-use Rattle.rad_site.specs.declared.verdict.Verdict.{Verdict}
-use Rattle.rad_site.specs.Decided.{decided}
+use Rattle.rad_access.specs.declared.verdict.Verdict.{Verdict}
+use Rattle.rad_access.specs.Decided.{decided}
 use Rattle.rad_site.specs.Request.{IsOutcome, Answers, secret_of, begun_scope, begun_in, reply_to, access_of}
 use Rattle.rad_site.specs.Meaning.{site_meaning}
 use Rattle.rad_site.specs.Site.{Site}

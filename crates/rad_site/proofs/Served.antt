@@ -18,15 +18,17 @@ use Rattle.unlang_tree.specs.declared.fault.TreeFault.{TreeFault}
 use Rattle.unlang_tree.specs.Instances.{Instance}
 use Rattle.unlang_tree.specs.Policies.{policies_of}
 use Rattle.unlang_tree.specs.Sites.{Site}
-use Rattle.unlang_tree.proofs.CallsMet.{each_wider, servers_met}
+use Rattle.unlang_tree.proofs.EachWider.{each_wider}
+use Rattle.unlang_tree.proofs.CallsMet.{servers_met}
 use Rattle.unlang_tree.specs.EachCall.{EachCall, EachCallIn, EachCallOfSections, EachCallOf, IsMet}
 use Rattle.unlang_code.specs.declared.section_id.SectionId.{SectionId}
 use Rattle.unlang_code.specs.Sections.{is_of_kind, section_in, statements_in, statements_of}
 use Rattle.unlang_code.specs.Serving.{IsServed, Serves}
-use Rattle.rad_site.specs.declared.site_module.SiteModule.{SiteModule}
-use Rattle.rad_site.specs.SiteModules.{methods_of, site_module}
-use Rattle.rad_site.specs.Modules.{AreInStep}
-use Rattle.rad_site.specs.TreeFault.{of_tree}
+use Rattle.rad_modules.specs.declared.site_module.SiteModule.{SiteModule}
+use Rattle.rad_modules.specs.SiteModules.{methods_of, site_module}
+use Rattle.rad_build.specs.Modules.{AreInStep}
+use Rattle.rad_build.specs.TreeFault.{of_tree}
+use Rattle.rad_access.proofs.Found.{found_one}
 
 -- a section by its place
 section_at : ℕ → Section
@@ -58,15 +60,6 @@ all_at : {X : Type 0} (P : X → Type 0) (xs : List X) (n : ℕ) (x : X) → All
 all_at P [] n x all is = absurd (cc)
 all_at P (y ∷ xs) zero x all is = subst P (same_Some y x is) all.0
 all_at P (y ∷ xs) (suc n) x all is = all_at P xs n x all.1 is
-
-found_here : {X : Type 0} (P : X → Type 0) (p : X → Bool) (first : X) (xs : List X) (x : X) → P first → (find p xs ≡ Some x → P x × (p x ≡ true))
-    → (b : Bool) → p first ≡ b → cond b (Some first) (find p xs) ≡ Some x → P x × (p x ≡ true)
-found_here P p first xs x of_first more true here same = let is_first = same_Some first x same in (subst P is_first of_first, subst (λ y. p y ≡ true) is_first here)
-found_here P p first xs x of_first more false here later = more later
-
-pub found_one : {X : Type 0} (P : X → Type 0) (p : X → Bool) (xs : List X) (x : X) → AllByRecursion P xs → find p xs ≡ Some x → P x × (p x ≡ true)
-found_one P p [] x all is = absurd (cc)
-found_one P p (first ∷ xs) x all is = found_here P p first xs x all.0 (found_one P p xs x all.1) (p first) refl is
 
 module _ (holds : Section → Call → Type 0) where
   in_tree : (tree : SectionTree) (sub : Option ℕ) (statements : List Statement) → EachCallIn holds tree → statements_in sub tree ≡ Some statements → EachCall holds tree.section statements

@@ -5,8 +5,8 @@ use Rattle.unlang_tree.specs.declared.fault.TreeFault.{TreeFault}
 use Rattle.unlang_tree.specs.declared.fault.TreeFault.TheVariants as tree
 use Rattle.unlang_tree.specs.declared.policies.ServerTree.{ServerTree}
 use Rattle.unlang_tree.specs.Policies.{says}
-use Rattle.rad_site.specs.Nodes.{Gives}
-use Rattle.rad_site.specs.TreeFault.{of_tree}
+use Rattle.rad_build.specs.Nodes.{Gives}
+use Rattle.rad_build.specs.TreeFault.{of_tree}
 
 pub gives_tree : (answer said : Result (List ServerTree) TreeFault) → IsAnswer says said answer → Gives (of_tree answer) (of_tree said)
 gives_tree (Ok servers) said is = ap of_tree is

@@ -14,21 +14,21 @@ use Rattle.rad_policy.specs.Policy.{Sources}
 use Rattle.rad_packet.specs.declared.client.Client.{Client}
 use Rattle.rad_clients.specs.Networks.{is_of}
 use Rattle.unlang_tree.specs.Policies.{policies_of}
-use Rattle.rad_site.specs.declared.build.servers.Listener.{Listener}
-use Rattle.rad_site.specs.declared.fault.BuildFault.{BuildFault}
+use Rattle.rad_build.specs.declared.servers.Listener.{Listener}
+use Rattle.rad_build.specs.declared.fault.BuildFault.{BuildFault}
 use Rattle.rad_site.specs.Site.{Site}
-use Rattle.rad_site.specs.Nodes.{◌>>=◌, refused, bad_setting, formed, after_each}
-use Rattle.rad_site.specs.Items.{is_block}
-use Rattle.rad_site.specs.ConfFault.{of_conf}
-use Rattle.rad_site.specs.DictFault.{of_dict}
-use Rattle.rad_site.specs.ClientBlock.{client_at}
-use Rattle.rad_site.specs.declared.settings.Settings.{Settings}
-use Rattle.rad_site.specs.Settings.{settings_in}
-use Rattle.rad_site.specs.TreeFault.{of_tree}
-use Rattle.rad_site.specs.Modules.{Modules}
-use Rattle.rad_site.specs.ModulesBlock.{modules_in}
-use Rattle.rad_site.specs.ServerBlocks.{servers_in}
-use Rattle.rad_site.specs.Policies.{Policies}
+use Rattle.rad_build.specs.Nodes.{◌>>=◌, refused, bad_setting, formed, after_each}
+use Rattle.rad_build.specs.Items.{is_block}
+use Rattle.rad_build.specs.ConfFault.{of_conf}
+use Rattle.rad_build.specs.DictFault.{of_dict}
+use Rattle.rad_build.specs.ClientBlock.{client_at}
+use Rattle.rad_build.specs.declared.settings.Settings.{Settings}
+use Rattle.rad_build.specs.Settings.{settings_in}
+use Rattle.rad_build.specs.TreeFault.{of_tree}
+use Rattle.rad_build.specs.Modules.{Modules}
+use Rattle.rad_build.specs.ModulesBlock.{modules_in}
+use Rattle.rad_build.specs.ServerBlocks.{servers_in}
+use Rattle.rad_access.specs.Policies.{Policies}
 
 -- The configuration's file, and the place that stands for it as a whole.
 abbrev pub conf_name : List ℕ

@@ -1,7 +1,7 @@
 -- What a generation of a site means to the core: what its files are built to, and what it answers.
 use Rattle.rad_policy.specs.Policy.{Meaning}
-use Rattle.rad_site.specs.declared.fault.BuildFault.{BuildFault}
-use Rattle.rad_site.specs.declared.fault.BuildFault.TheVariants as fault
+use Rattle.rad_build.specs.declared.fault.BuildFault.{BuildFault}
+use Rattle.rad_build.specs.declared.fault.BuildFault.TheVariants as fault
 use Rattle.rad_site.specs.Site.{Site}
 use Rattle.rad_site.specs.Built.{built}
 use Rattle.rad_site.specs.Request.{client_of, has_server_of, access_of}

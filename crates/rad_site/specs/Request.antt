@@ -14,10 +14,10 @@ use Rattle.rad_policy.specs.declared.outcome.Outcome.{Outcome}
 use Rattle.rad_policy.specs.declared.outcome.Outcome.TheVariants as outcome
 use Rattle.rad_policy.specs.Policy.{Reply, Replies, Withholds}
 use Rattle.mod_base.specs.Situation.{Situation}
-use Rattle.rad_site.specs.declared.verdict.Verdict.{Verdict}
-use Rattle.rad_site.specs.Access.{has_server}
-use Rattle.rad_site.specs.Decided.{decided}
-use Rattle.rad_site.specs.Responses.{response_of}
+use Rattle.rad_access.specs.declared.verdict.Verdict.{Verdict}
+use Rattle.rad_access.specs.Access.{has_server}
+use Rattle.rad_access.specs.Decided.{decided}
+use Rattle.rad_access.specs.Responses.{response_of}
 use Rattle.rad_site.specs.Site.{Site}
 
 -- The client of a source address: of those whose network has it, the one with the longest prefix.

@@ -3,8 +3,8 @@ use Rattle.std.specs.Prelude.{ℕ, List}
 use Rattle.rad_outside.specs.declared.listen.Peer.{Peer}
 use Rattle.rad_dict.specs.Definitions.{Definitions}
 use Rattle.rad_packet.specs.declared.client.Client.{Client}
-use Rattle.rad_site.specs.declared.settings.Settings.{Settings}
-use Rattle.rad_site.specs.Policies.{Policies}
+use Rattle.rad_build.specs.declared.settings.Settings.{Settings}
+use Rattle.rad_access.specs.Policies.{Policies}
 
 -- The dictionary, the settings, the clients in order, the modules with the sections of the servers that call them, and the listener: the
 -- name of its server, and where it is bound.

@@ -1,7 +1,7 @@
 ghost use Rattle.std.specs.Prelude.{◌≡◌};
 
-use crate::policies::Policies;
-use crate::settings::Settings;
+use rad_access::Policies;
+use rad_build::Settings;
 use rad_clients::Clients;
 use rad_dict::Dict;
 use rad_outside::{Octets, Peer};

@@ -5,31 +5,19 @@
 //! Above it stands the server, which installs generations and asks them through the trait `Policy`.
 #![tactic(auto)]
 
-mod access;
-mod attributes;
 mod bare_world;
 mod build;
-mod fault;
 mod generation;
 mod laws;
-mod policies;
 mod policy;
-mod post_auth;
-mod reject_laws;
 mod reply;
-mod response;
-mod settings;
-mod site_module;
-mod verdict;
 
-pub use build::fault_text;
-pub use fault::BuildFault;
 pub use generation::Generation;
-pub use laws::{
+pub use laws::{access_accepts_had_the_password, clients_are_what_their_blocks_say};
+pub use rad_access::{
     challenges_let_requests_in, passwords_and_challenges_let_requests_in,
-    passwords_let_requests_in, realms_are_what_their_blocks_say,
+    passwords_let_requests_in, rejected_replies_have_messages_and_what_reject_adds,
 };
-pub use reject_laws::rejected_replies_have_messages_and_what_reject_adds;
-pub use settings::Settings;
-pub use site_module::SiteModule;
+pub use rad_build::{BuildFault, Settings, fault_text, realms_are_what_their_blocks_say};
+pub use rad_modules::SiteModule;
 pub use unlang_tree::TreeFault;

@@ -10,9 +10,9 @@ ghost use Rattle.rad_site.specs.Meaning.{site_meaning};
 
 use crate::bare_world::BareWorld;
 use crate::build::{CONF, dict_at, site_of};
-use crate::fault::BuildFault;
 use crate::generation::Generation;
 use crate::reply::reply_to;
+use rad_build::BuildFault;
 use rad_conf::read_conf;
 use rad_outside::{Files, NoMemory, Shelf};
 use rad_packet::{Checked, Client, check};

@@ -7,8 +7,7 @@ ghost use Rattle.rad_policy.specs.Seen.{FitsDatagram};
 ghost use Rattle.rad_policy.specs.Policy.{Replies};
 ghost use Rattle.rad_site.specs.Request.{reply_to, IsOutcome};
 
-use crate::response::response_of;
-use crate::verdict::Verdict;
+use rad_access::{Verdict, response_of};
 use rad_outside::NoMemory;
 use rad_packet::Checked;
 use rad_policy::Outcome;

@@ -1,6 +1,6 @@
 -- The three lists of pairs that a policy works on: the request's, the reply's and the control list
 -- (unlang(5), 'update').
-use Rattle.std.specs.Prelude.{List, []}
+use Rattle.std.specs.Prelude.{Bool, true, false, List, []}
 use Rattle.rad_value.specs.declared.values.Pair.{Pair}
 use Rattle.rad_value.specs.declared.edits.ListName.{ListName}
 use Rattle.rad_value.specs.declared.edits.ListName.TheVariants.{Request, Reply, Control}
@@ -22,6 +22,18 @@ abbrev pub with_list : PairLists → ListName → List Pair → PairLists
 with_list lists Request pairs = record lists { request = pairs }
 with_list lists Reply pairs = record lists { reply = pairs }
 with_list lists Control pairs = record lists { control = pairs }
+
+-- Whether two lists are the same.
+abbrev pub same_list : ListName → ListName → Bool
+same_list Request Request = true
+same_list Request Reply = false
+same_list Request Control = false
+same_list Reply Request = false
+same_list Reply Reply = true
+same_list Reply Control = false
+same_list Control Request = false
+same_list Control Reply = false
+same_list Control Control = true
 
 -- Three lists without a pair.
 abbrev pub no_pairs : PairLists

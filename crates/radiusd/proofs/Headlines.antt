@@ -13,7 +13,7 @@ use Rattle.rad_core.specs.Worker.{Placed, placed, of_worker, IsClosed, IsOwn}
 use Rattle.rad_core.proofs.Histories.{run-append, IsLegal-append, of_worker-own}
 use Rattle.rad_core.proofs.Stemming.{keeps_replies}
 use Rattle.rad_core.proofs.Completeness.{may_all, may_own, each_one_reply}
-use Rattle.rad_site.specs.declared.fault.BuildFault.{BuildFault}
+use Rattle.rad_build.specs.declared.fault.BuildFault.{BuildFault}
 use Rattle.rad_serve.specs.declared.left.Left.{Left}
 use Rattle.rad_site.specs.Site.{Site}
 use Rattle.rad_site.specs.Meaning.{site_meaning}
@@ -21,7 +21,7 @@ use Rattle.rad_serve.specs.History.{state_after, Installs}
 use Rattle.radiusd.specs.Loading.{listener_of, TriesInstall}
 use Rattle.rad_serve.specs.Told.{KitTells, Told, GrowsBy}
 use Rattle.rad_serve.specs.Leaving.{Leaves, IsAtEnd}
-use Rattle.radiusd.specs.Printing.{Prints}
+use Rattle.rad_outside.specs.Printing.{Prints}
 use Rattle.radiusd.specs.Course.{Course, Serving, Takes, BeginsWithInstall, IsExcused, Call, call_of, lines_of}
 use Rattle.rad_serve.specs.Serving.{GoesOn}
 use Rattle.radiusd.specs.Headline.{Headline, IsNamed}

@@ -6,8 +6,8 @@ use Rattle.rad_outside.specs.Telling.{Tells, Rose}
 use Rattle.rad_outside.specs.Files.{File, FilesTold, begun}
 use Rattle.rad_policy.specs.Policy.{IsBuilt}
 use Rattle.rad_core.specs.declared.entry.Entry.{Entry}
-use Rattle.rad_site.specs.declared.fault.BuildFault.{BuildFault}
-use Rattle.rad_site.specs.declared.fault.BuildFault.TheVariants as fault
+use Rattle.rad_build.specs.declared.fault.BuildFault.{BuildFault}
+use Rattle.rad_build.specs.declared.fault.BuildFault.TheVariants as fault
 use Rattle.radiusd.specs.declared.status.Status.{Status}
 use Rattle.radiusd.specs.declared.status.Status.TheVariants as status
 use Rattle.rad_site.specs.Site.{Site}
@@ -17,13 +17,13 @@ use Rattle.radiusd.specs.OrderSeen.{OrderSeen}
 use Rattle.radiusd.specs.declared.order.Task.{Task}
 use Rattle.radiusd.specs.declared.order.Task.TheVariants.{Check, Serve}
 use Rattle.radiusd.specs.Words.{both, order_in, folder_in}
-use Rattle.radiusd.specs.Printing.{Prints}
+use Rattle.rad_outside.specs.Printing.{Prints}
 use Rattle.radiusd.specs.Course.{IsCourse, Unbuilt, Checked, Serving, fault_line, HasDeafWire}
 use Rattle.radiusd.specs.ExitStatuses.{number_of, status_of, IsServing}
 use Rattle.radiusd.specs.Statuses.{IsSiteFault, IsRefused, FaultGives, SiteGives, NothingFailed, IsListed}
 use Rattle.rad_serve.specs.History.{IsFull}
 use Rattle.rad_outside.proofs.Tellings.{Tells-same, Tells-weaker}
-use Rattle.radiusd.proofs.Printings.{Prints-weaker}
+use Rattle.rad_outside.proofs.Printings.{Prints-weaker}
 
 -- the status of a fault of the configuration is that of a site's own fault alone
 IsSiteFault-by_status : (wrong : BuildFault) → status_of wrong ≡ status.Configuration → IsSiteFault wrong

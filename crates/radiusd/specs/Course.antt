@@ -10,11 +10,11 @@ use Rattle.rad_core.specs.declared.installed.Installed.{Installed}
 use Rattle.rad_core.specs.declared.entry.Entry.{Entry}
 use Rattle.rad_core.specs.declared.entry.Entry.TheVariants.{Install}
 use Rattle.rad_policy.specs.Policy.{IsBuilt}
-use Rattle.rad_site.specs.declared.fault.BuildFault.{BuildFault}
-use Rattle.rad_site.specs.declared.fault.BuildFault.TheVariants as fault
+use Rattle.rad_build.specs.declared.fault.BuildFault.{BuildFault}
+use Rattle.rad_build.specs.declared.fault.BuildFault.TheVariants as fault
 use Rattle.rad_site.specs.Built.{built}
 use Rattle.rad_serve.specs.Counting.{counts_of}
-use Rattle.rad_site.specs.FaultText.{fault_text}
+use Rattle.rad_build.specs.FaultText.{fault_text}
 use Rattle.radiusd.specs.Loading.{listener_of}
 use Rattle.radiusd.specs.Lines.{listening_line, counts_line, socket_fault_line, worn_line, usage_line, checked_line}
 use Rattle.rad_site.specs.Meaning.{site_meaning}

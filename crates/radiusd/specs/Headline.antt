@@ -13,13 +13,13 @@ use Rattle.rad_core.specs.Step.{IsLegal}
 use Rattle.rad_core.specs.Worker.{Placed, placed, of_worker, served, answered, IsClosed, HaveOutcomes}
 use Rattle.rad_core.specs.Completeness.{EachHasOneReply}
 use Rattle.rad_core.specs.Keeping.{KeepsReplies}
-use Rattle.rad_site.specs.declared.fault.BuildFault.{BuildFault}
+use Rattle.rad_build.specs.declared.fault.BuildFault.{BuildFault}
 use Rattle.rad_serve.specs.declared.left.Left.{Left}
 use Rattle.radiusd.specs.Course.{Course, IsCourse, Takes, IsExcused, lines_of}
 use Rattle.rad_serve.specs.History.{state_after}
 use Rattle.rad_serve.specs.Leaving.{Leaves, IsAtEnd}
 use Rattle.rad_site.specs.Meaning.{site_meaning}
-use Rattle.radiusd.specs.Printing.{Prints}
+use Rattle.rad_outside.specs.Printing.{Prints}
 use Rattle.rad_site.specs.Site.{Site}
 use Rattle.rad_serve.specs.Told.{KitTells, Hears, Sends, GrowsBy, IsAt}
 

@@ -4,8 +4,8 @@ use Rattle.rad_outside.specs.declared.crew.Kit.{Kit}
 use Rattle.rad_outside.specs.Telling.{Tells, Rose}
 use Rattle.rad_outside.specs.Files.{FilesTold, begun}
 use Rattle.rad_core.specs.declared.entry.Entry.{Entry}
-use Rattle.rad_site.specs.declared.fault.BuildFault.{BuildFault}
-use Rattle.rad_site.specs.declared.fault.BuildFault.TheVariants as fault
+use Rattle.rad_build.specs.declared.fault.BuildFault.{BuildFault}
+use Rattle.rad_build.specs.declared.fault.BuildFault.TheVariants as fault
 use Rattle.radiusd.specs.declared.status.Status.{Status}
 use Rattle.radiusd.specs.declared.status.Status.TheVariants as status
 use Rattle.rad_site.specs.Built.{built}
@@ -13,7 +13,7 @@ use Rattle.radiusd.specs.Course.{fault_line, HasDeafWire}
 use Rattle.rad_serve.specs.History.{IsFull}
 use Rattle.radiusd.specs.Loading.{TriesInstall}
 use Rattle.radiusd.specs.Lines.{checked_line}
-use Rattle.radiusd.specs.Printing.{Prints, PrintsWhole}
+use Rattle.rad_outside.specs.Printing.{Prints, PrintsWhole}
 use Rattle.rad_site.specs.Site.{Site}
 use Rattle.radiusd.specs.declared.order.Task.TheVariants.{Check}
 use Rattle.radiusd.specs.Words.{order_in, folder_in}

@@ -1,7 +1,7 @@
 ghost use Rattle.std.specs.Prelude.{◌≡◌, ◌⊎◌};
 ghost use Rattle.rad_outside.specs.Telling.{Tells, Rose};
 ghost use Rattle.radiusd.specs.Lines.{checked_line};
-ghost use Rattle.radiusd.specs.Printing.{Prints, PrintsWhole};
+ghost use Rattle.rad_outside.specs.Printing.{Prints, PrintsWhole};
 
 use crate::printing::say;
 use crate::status::Status;

@@ -1,6 +1,6 @@
 ghost use Rattle.std.specs.Prelude.{◌≡◌, ◌≤◌, OnOk, IfErr};
 ghost use Rattle.rad_outside.specs.Telling.{Tells, Rose};
-ghost use Rattle.radiusd.specs.Printing.{Prints, PrintsWhole};
+ghost use Rattle.rad_outside.specs.Printing.{Prints, PrintsWhole};
 
 use crate::status::Status;
 use rad_outside::Sink;

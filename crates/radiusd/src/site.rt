@@ -6,7 +6,8 @@ ghost use Rattle.radiusd.specs.Headline.{Headline};
 ghost use Rattle.rad_serve.specs.History.{state_after, IsFull};
 ghost use Rattle.rad_serve.specs.Leaving.{IsAtEnd};
 ghost use Rattle.radiusd.specs.Lines.{listening_line, counts_line};
-ghost use Rattle.radiusd.specs.Printing.{Prints, PrintsWhole, IsCutShort};
+ghost use Rattle.rad_outside.specs.Printing.{Prints, PrintsWhole};
+ghost use Rattle.radiusd.specs.Printing.{IsCutShort};
 ghost use Rattle.radiusd.specs.ExitStatuses.{IsServing, number_of};
 
 use crate::install::install;

@@ -5,7 +5,7 @@ ghost use Rattle.radiusd.specs.Course.{HasDeafWire, fault_line};
 ghost use Rattle.radiusd.specs.ExitStatuses.{number_of, status_of};
 ghost use Rattle.radiusd.specs.Headline.{Headline, RunsAs};
 ghost use Rattle.rad_serve.specs.History.{state_after, IsFull};
-ghost use Rattle.radiusd.specs.Printing.{Prints};
+ghost use Rattle.rad_outside.specs.Printing.{Prints};
 ghost use Rattle.radiusd.specs.Statuses.{IsRefused, IsChecked, FaultGives, SiteGives, NothingFailed, NothingFailedOfCheck, IsListed};
 ghost use Rattle.radiusd.specs.Words.{order_in, IsCheck};
 

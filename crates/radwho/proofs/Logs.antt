@@ -11,8 +11,8 @@ use Rattle.radwho.specs.declared.status.Status.{Status}
 use Rattle.radwho.specs.declared.status.Status.TheVariants as status
 use Rattle.radwho.specs.declared.wanted.Wanted.{Wanted}
 use Rattle.radwho.specs.Run.{log_at, IsLog, ShowsLog, Shows, Refuses, Runs, log_lines}
-use Rattle.radwho.proofs.Telling.{Tells-same}
-use Rattle.radwho.proofs.Printings.{Prints-nothing}
+use Rattle.rad_outside.proofs.Tellings.{Tells-same}
+use Rattle.rad_outside.proofs.Printings.{Prints-nothing}
 
 at_text : (path : List ℕ) (files : List File) (there : Option (List ℕ)) → IsUtf8 path → octets_at path files ≡ there → log_at path files ≡ unwrap_or there []
 at_text path files there good same = cond-true _ _ _ (is_utf8-from_IsUtf8 path good) ∙ ap (λ (o : Option (List ℕ)). unwrap_or o []) same

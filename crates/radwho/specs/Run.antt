@@ -11,7 +11,7 @@ use Rattle.radwho.specs.declared.status.Status.{Status}
 use Rattle.radwho.specs.declared.status.Status.TheVariants as status
 use Rattle.radwho.specs.declared.wanted.Wanted.{Wanted}
 use Rattle.radwho.specs.Lines.{lines_of}
-use Rattle.radwho.specs.Printing.{Prints}
+use Rattle.rad_outside.specs.Printing.{Prints}
 
 -- The exit status of the program.
 abbrev pub number_of : Status → ℕ

@@ -2,7 +2,7 @@
 
 ghost use Rattle.std.specs.Prelude.{OnOk, OnErr};
 ghost use Rattle.rad_outside.specs.Telling.{Tells, Rose};
-ghost use Rattle.radwho.specs.Printing.{Prints};
+ghost use Rattle.rad_outside.specs.Printing.{Prints};
 ghost use Rattle.radwho.specs.Run.{Refuses, usage_line};
 
 use crate::status::Status;

@@ -2,7 +2,7 @@
 
 ghost use Rattle.std.specs.Prelude.{◌≡◌, ◌++◌, [], ◌∷◌, IfOk};
 ghost use Rattle.rad_outside.specs.Telling.{Tells, Counts, Rose};
-ghost use Rattle.radwho.specs.Printing.{Prints};
+ghost use Rattle.rad_outside.specs.Printing.{Prints};
 ghost use Rattle.radwho.specs.Run.{too_long_line, log_lines, log_at, read_fault_line, ShowsLog, Shows, IsLog};
 
 use crate::listing::lines_of_log;

@@ -13,7 +13,7 @@ use shared_cases::{Form, Tally};
 use std::process::ExitCode;
 
 /// The files of cases.
-const FILES: [&str; 13] = [
+const FILES: [&str; 14] = [
     "serving.cases",
     "repeats.cases",
     "failing.cases",
@@ -26,6 +26,7 @@ const FILES: [&str; 13] = [
     "realms.cases",
     "post_auth.cases",
     "filters.cases",
+    "conditions.cases",
     "dictionaries.cases",
 ];
 

@@ -42,7 +42,7 @@ fn conf_of(alloc: Global, case: &Case) -> Result<Result<Conf, ConfFault>, NoMemo
 fn tree_text(alloc: Global, conf: &Conf, instances: &Instances) -> Result<Vec<u8>, NoMemory> {
     let dict = Dict::base(alloc)?;
     match Tree::of(alloc, conf, &dict, instances) {
-        Ok(policies) => policies_text(alloc, &policies),
+        Ok(policies) => policies_text(alloc, &policies, &dict),
         Err(fault) => fault_text(alloc, &fault),
     }
 }

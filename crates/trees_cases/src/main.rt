@@ -23,6 +23,7 @@ fn main(rt: HostRuntime) -> ExitCode {
     tally.judge_file(rt, &mut TreeCases, Form::Blocks, "faults.cases");
     tally.judge_file(rt, &mut TreeCases, Form::Blocks, "updates.cases");
     tally.judge_file(rt, &mut TreeCases, Form::Blocks, "policies.cases");
+    tally.judge_file(rt, &mut TreeCases, Form::Blocks, "ifs.cases");
     let mut wrong = Tally::new(rt.alloc());
     wrong.judge_file(rt, &mut InstanceCases, Form::Rows, "wrong_instances.cases");
     wrong.judge_file(rt, &mut TreeCases, Form::Blocks, "wrong_trees.cases");

@@ -27,7 +27,8 @@ use Rattle.unlang_code.specs.declared.update.Said.{Said}
 use Rattle.unlang_code.specs.declared.update.Said.TheVariants as said
 use Rattle.unlang_code.specs.Updates.{said_by, edit_of, tried_to, done_with}
 use Rattle.unlang_code.specs.Run.{section_done, begun, in_scope}
-use Rattle.unlang_code.specs.Frames.{same_list, module_edits, line_edits, leaf_edits, edits_of}
+use Rattle.rad_value.specs.PairLists.{same_list}
+use Rattle.unlang_code.specs.Frames.{module_edits, line_edits, leaf_edits, edits_of}
 use Rattle.unlang_code.specs.Leaves.{Leaf, Calls, Edits, module_done, leaf_done, leaves_of}
 use Rattle.unlang_code.proofs.Leaving.{IsLasting, LeafLeads, run_leads}
 
@@ -100,6 +101,7 @@ module _ {M : Type 0} (meaning : Meaning M) (lawful : (m : M) (dict : Definition
     joined = λ a b c first second. second ∙ first;
     noted = λ s t answer leaves. leaves;
     chose = λ s t leaves. leaves;
+    captured = λ s scope only. ap (λ (x : Scope). values_of attr (list_of x.lists list)) only;
   }
 
   module_leaves : (m : Option M) (s : Situation) → module_edits meaning m list attr ≡ false → Leaves s (module_done meaning dict section m s)

@@ -6,7 +6,8 @@ use Rattle.rad_dict.specs.Definitions.{Definitions}
 use Rattle.mod_base.specs.Situation.{Situation}
 use Rattle.mod_base.specs.Meaning.{Meaning}
 use Rattle.unlang_tree.specs.declared.statement.Statement.{Statement}
-use Rattle.std.proofs.Common.{List}
+use Rattle.std.proofs.Common.{List, sym, subst}
+use Rattle.rad_value.specs.declared.scope.Scope.{Scope}
 use Rattle.unlang_code.specs.Run.{section_done, begun, in_scope}
 use Rattle.unlang_code.specs.Leaves.{EachLeaf, LeafKeeps}
 use Rattle.unlang_code.proofs.Leaving.{IsLasting, run_leads}
@@ -21,6 +22,7 @@ module _ {M : Type 0} (fact : PairLists → Type 0) (meaning : Meaning M) (stack
     joined = λ a b c first second holds. second (first holds);
     noted = λ s t answer keeps. keeps;
     chose = λ s t keeps. keeps;
+    captured = λ s scope only holds. subst (λ (x : Scope). fact x.lists) (sym only) holds;
   }
 
   -- a section keeps what each of its leaves keeps

@@ -2,6 +2,7 @@ pub mod Judging
 pub mod Judged
 pub mod Pieces
 pub mod Trees
+pub mod Asking
 pub mod Leaving
 pub mod Running
 pub mod Stepping
@@ -14,3 +15,5 @@ pub mod Keeping
 pub mod FrameLaws
 pub mod Lines
 pub mod OtherLists
+pub mod Branching
+pub mod Taking

@@ -13,7 +13,8 @@ use Rattle.unlang_tree.specs.declared.update.Line.{Line}
 use Rattle.unlang_code.specs.declared.update.Said.{Said}
 use Rattle.unlang_code.specs.declared.update.Said.TheVariants as said
 use Rattle.unlang_code.specs.Updates.{said_by, edit_of, tried_to, done_with, line_done, then_rest, lines_done}
-use Rattle.unlang_code.specs.Frames.{same_list, goes_to}
+use Rattle.rad_value.specs.PairLists.{same_list}
+use Rattle.unlang_code.specs.Frames.{goes_to}
 use Rattle.unlang_code.proofs.FrameLaws.{none_of, tried_lists}
 
 other_list : (lists : PairLists) (named list : ListName) (pairs : List Pair) → same_list named list ≡ false → list_of (with_list lists named pairs) list ≡ list_of lists list

@@ -54,6 +54,7 @@ lasts = record {
   joined = grows_joined;
   noted = λ s t answer grows. grows;
   chose = λ s t grows. grows;
+  captured = λ s scope only. grows_alone s;
 }
 
 -- a run that moves within its scope alone has made no effect
@@ -89,7 +90,7 @@ module _ {M : Type 0} (meaning : Meaning M) (lawful : (m : M) (dict : Definition
   leaf_grows stack dict section (Calls call) s = module_grows dict section (slice_get stack call.instance) s
   leaf_grows stack dict section (Edits line) s = grows_alone s
 
-  leaves_grow : (stack : List M) (dict : Definitions) (section : Section) (leaves : List Leaf) → AllByRecursion (LeafLeads Grows lasts meaning stack dict section) leaves
+  pub leaves_grow : (stack : List M) (dict : Definitions) (section : Section) (leaves : List Leaf) → AllByRecursion (LeafLeads Grows lasts meaning stack dict section) leaves
   leaves_grow stack dict section [] = tt
   leaves_grow stack dict section (leaf ∷ leaves) = (leaf_grows stack dict section leaf, leaves_grow stack dict section leaves)
 

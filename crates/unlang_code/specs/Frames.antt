@@ -1,27 +1,15 @@
 -- Which attributes of which lists the statements of a section may edit, whatever the situation. After unlang(5), where an
 -- update names its list and attribute; the frames of modules are this project's own.
-use Rattle.std.specs.Prelude.{Bool, true, false, ◌&&◌, List, slice_get, Option, Some, None}
+use Rattle.std.specs.Prelude.{Bool, false, ◌&&◌, List, slice_get, Option, Some, None}
 use Rattle.std.specs.List.{list_any}
 use Rattle.rad_words.specs.declared.attributes.AttrId.{AttrId}
 use Rattle.rad_words.specs.Attribute.{same_attr}
 use Rattle.rad_value.specs.declared.edits.ListName.{ListName}
-use Rattle.rad_value.specs.declared.edits.ListName.TheVariants.{Request, Reply, Control}
+use Rattle.rad_value.specs.PairLists.{same_list}
 use Rattle.mod_base.specs.Meaning.{Meaning}
 use Rattle.unlang_tree.specs.declared.statement.Statement.{Statement}
 use Rattle.unlang_tree.specs.declared.update.Line.{Line}
 use Rattle.unlang_code.specs.Leaves.{Leaf, Calls, Edits, leaves_of}
-
--- Two names of lists are the same.
-abbrev pub same_list : ListName → ListName → Bool
-same_list Request Request = true
-same_list Request Reply = false
-same_list Request Control = false
-same_list Reply Request = false
-same_list Reply Reply = true
-same_list Reply Control = false
-same_list Control Request = false
-same_list Control Reply = false
-same_list Control Control = true
 
 -- A module, where there is one, may edit what is in its frame.
 abbrev pub module_edits : {M : Type 0} → Meaning M → Option M → ListName → AttrId → Bool

@@ -10,7 +10,7 @@ use Rattle.mod_base.specs.Meaning.{Meaning}
 use Rattle.unlang_tree.specs.declared.statement.Call.{Call}
 use Rattle.unlang_tree.specs.declared.statement.Statement.{Statement}
 use Rattle.unlang_tree.specs.declared.statement.StatementKind.{StatementKind}
-use Rattle.unlang_tree.specs.declared.statement.StatementKind.TheOpen.{StatementKind-F, Group-F, Statement-F}
+use Rattle.unlang_tree.specs.declared.statement.StatementKind.TheOpen.{StatementKind-F, Group-F, Arm-F, Statement-F}
 use Rattle.unlang_tree.specs.declared.statement.StatementKind.TheOpen as level
 use Rattle.unlang_tree.specs.declared.statement.StatementKind.TheFolds.{fold-StatementKind, fold-Statement}
 use Rattle.unlang_code.specs.Updates.{line_done}
@@ -27,27 +27,32 @@ joined [] = []
 joined (leaves ∷ more) = leaves ++ joined more
 
 -- The leaves of a kind of statement, by those of the statements in it.
-abbrev pub kind_leaves : StatementKind-F (List Leaf) (List Leaf) (List Leaf) → List Leaf
+abbrev pub kind_leaves : StatementKind-F (List Leaf) (List Leaf) (List Leaf) (List Leaf) → List Leaf
 kind_leaves (level.Call call) = Calls call ∷ []
 kind_leaves (level.Group group) = group
 kind_leaves level.Return = []
 kind_leaves (level.Update lines) = map Edits lines
+kind_leaves (level.If arms) = joined arms
 
 -- The leaves of a block, by those of its statements.
-abbrev pub group_leaves : Group-F (List Leaf) (List Leaf) (List Leaf) → List Leaf
+abbrev pub group_leaves : Group-F (List Leaf) (List Leaf) (List Leaf) (List Leaf) → List Leaf
 group_leaves group = joined group.statements
 
+-- The leaves of an arm of an `if`, by those of its statements. Its condition is none: it sets captures, and does nothing else.
+abbrev pub arm_leaves : Arm-F (List Leaf) (List Leaf) (List Leaf) (List Leaf) → List Leaf
+arm_leaves arm = joined arm.statements
+
 -- The leaves of a statement are those of its kind.
-abbrev pub statement_leaves : Statement-F (List Leaf) (List Leaf) (List Leaf) → List Leaf
+abbrev pub statement_leaves : Statement-F (List Leaf) (List Leaf) (List Leaf) (List Leaf) → List Leaf
 statement_leaves statement = statement.kind
 
 -- The leaves of a kind of statement, those of the blocks in it too, in order.
 abbrev pub leaves_in : StatementKind → List Leaf
-leaves_in = fold-StatementKind (List Leaf) (List Leaf) (List Leaf) kind_leaves group_leaves statement_leaves
+leaves_in = fold-StatementKind (List Leaf) (List Leaf) (List Leaf) (List Leaf) kind_leaves arm_leaves group_leaves statement_leaves
 
 -- The leaves of a statement.
 abbrev pub leaves_at : Statement → List Leaf
-leaves_at = fold-Statement (List Leaf) (List Leaf) (List Leaf) kind_leaves group_leaves statement_leaves
+leaves_at = fold-Statement (List Leaf) (List Leaf) (List Leaf) (List Leaf) kind_leaves arm_leaves group_leaves statement_leaves
 
 -- The leaves of statements, in order.
 abbrev pub leaves_of : List Statement → List Leaf

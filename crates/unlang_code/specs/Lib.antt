@@ -1,6 +1,7 @@
 pub mod Judgement
 pub mod Sections
 pub mod Updates
+pub mod Choosing
 pub mod Run
 pub mod Progress
 pub mod Progressing
@@ -8,3 +9,4 @@ pub mod Serving
 pub mod Frames
 pub mod Leaves
 pub mod Operators
+pub mod Branches

@@ -47,3 +47,7 @@ child_done child = record { signal = Goes; child = Some child }
 
 abbrev pub return_done : Done
 return_done = record { signal = Returns; child = None }
+
+-- An `if` of which no arm is taken.
+abbrev pub untaken_done : Done
+untaken_done = record { signal = Goes; child = None }

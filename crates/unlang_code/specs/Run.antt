@@ -12,6 +12,7 @@ use Rattle.rad_dict.specs.Definitions.{Definitions}
 use Rattle.mod_base.specs.Situation.{Situation}
 use Rattle.mod_base.specs.Meaning.{Meaning}
 use Rattle.unlang_tree.specs.declared.update.Line.{Line}
+use Rattle.unlang_tree.specs.declared.statement.Arm.{Arm, out-Arm}
 use Rattle.unlang_tree.specs.declared.statement.Call.{Call}
 use Rattle.unlang_tree.specs.declared.statement.Group.{Group, out-Group}
 use Rattle.unlang_tree.specs.declared.statement.GroupForm.{GroupForm}
@@ -19,7 +20,7 @@ use Rattle.unlang_tree.specs.declared.statement.GroupForm.TheVariants as form
 use Rattle.unlang_tree.specs.declared.statement.Override.{Override}
 use Rattle.unlang_tree.specs.declared.statement.Statement.{Statement}
 use Rattle.unlang_tree.specs.declared.statement.StatementKind.{StatementKind}
-use Rattle.unlang_tree.specs.declared.statement.StatementKind.TheOpen.{StatementKind-F, Group-F, Statement-F}
+use Rattle.unlang_tree.specs.declared.statement.StatementKind.TheOpen.{StatementKind-F, Group-F, Statement-F, Arm-F}
 use Rattle.unlang_tree.specs.declared.statement.StatementKind.TheOpen as level
 use Rattle.unlang_tree.specs.declared.statement.StatementKind.TheFolds.{fold-StatementKind, fold-Statement}
 use Rattle.unlang_tree.specs.declared.policies.ServerTree.{ServerTree}
@@ -29,6 +30,7 @@ use Rattle.unlang_code.specs.declared.progress.Signal.TheVariants.{Goes, Returns
 use Rattle.unlang_code.specs.declared.section_id.SectionId.{SectionId}
 use Rattle.unlang_code.specs.Judgement.{child_of, ends, judged, default_code}
 use Rattle.unlang_code.specs.Sections.{statements_of}
+use Rattle.unlang_code.specs.Choosing.{Test, asks, first_met}
 use Rattle.unlang_code.specs.Updates.{lines_done}
 
 -- The run goes on with the next statement.
@@ -169,32 +171,64 @@ child_by section kind overrides answer = option_to_list (option_map (child_of se
 abbrev pub grouped : Section → GroupKind → List Override → Outcome → Outcome
 grouped section kind overrides outcome = record outcome { children = child_by section kind overrides (judged outcome.children) }
 
+-- The block of the arm that is taken, in the scope behind the questions. Where no arm is taken nothing else is done, and the
+-- `if` is no child.
+abbrev pub taken : Option Piece × Scope → Piece
+taken (None, scope) kind situation = nothing (in_scope scope situation)
+taken (Some block, scope) kind situation = block kind (in_scope scope situation)
+
+-- An `if`, by its arms: what each asks, and its block.
+abbrev pub branched : List (Test × Piece) → Piece
+branched arms kind situation = taken (first_met arms situation.scope) kind situation
+
+-- The block of an arm is a group of its own, with the actions of a plain one. It is judged in the group of the `if` by its code
+-- and that group's actions, and has none of its own.
+abbrev pub arm_block : Section → List Piece → Piece
+arm_block section pieces kind situation = grouped section kind [] (block_of Plain pieces situation)
+
 -- What a kind of statement means, by what the statements in it mean.
-abbrev pub kind_step : {M : Type 0} → Meaning M → List M → Definitions → Section → StatementKind-F Piece Piece Piece → Piece
+abbrev pub kind_step : {M : Type 0} → Meaning M → List M → Definitions → Section → StatementKind-F Piece (Test × Piece) Piece Piece → Piece
 kind_step meaning stack dict where_it_stands (level.Call call) = λ kind. called meaning stack dict where_it_stands kind call
 kind_step meaning stack dict where_it_stands (level.Group group) = group
 kind_step meaning stack dict where_it_stands level.Return = λ kind. returned
 kind_step meaning stack dict where_it_stands (level.Update lines) = λ kind. updated dict where_it_stands kind lines
+kind_step meaning stack dict where_it_stands (level.If arms) = branched arms
 
 -- What a block means, by what its statements mean.
-abbrev pub group_step : Section → Group-F Piece Piece Piece → Piece
+abbrev pub group_step : Section → Group-F Piece (Test × Piece) Piece Piece → Piece
 group_step section group = λ kind situation. grouped section kind group.overrides (formed group.form group.statements situation)
 
+-- What an arm of an `if` asks, and what its block means, by what its statements mean.
+abbrev pub arm_step : Definitions → Section → Arm-F Piece (Test × Piece) Piece Piece → Test × Piece
+arm_step dict section arm = (asks dict arm.condition, arm_block section arm.statements)
+
 -- A statement means what its kind means.
-abbrev pub statement_step : Statement-F Piece Piece Piece → Piece
+abbrev pub statement_step : Statement-F Piece (Test × Piece) Piece Piece → Piece
 statement_step statement = statement.kind
 
 -- What a kind of statement means.
 abbrev pub kind_done : {M : Type 0} → Meaning M → List M → Definitions → Section → StatementKind → Piece
-kind_done meaning stack dict section = fold-StatementKind Piece Piece Piece (kind_step meaning stack dict section) (group_step section) statement_step
+kind_done meaning stack dict section = fold-StatementKind Piece (Test × Piece) Piece Piece (kind_step meaning stack dict section) (arm_step dict section) (group_step section) statement_step
 
 -- What a statement means.
 abbrev pub statement_done : {M : Type 0} → Meaning M → List M → Definitions → Section → Statement → Piece
-statement_done meaning stack dict section = fold-Statement Piece Piece Piece (kind_step meaning stack dict section) (group_step section) statement_step
+statement_done meaning stack dict section = fold-Statement Piece (Test × Piece) Piece Piece (kind_step meaning stack dict section) (arm_step dict section) (group_step section) statement_step
 
 -- What a block means: its members run as its form says, and it is judged in its group by its own code and actions.
 abbrev pub group_done : {M : Type 0} → Meaning M → List M → Definitions → Section → Group → Piece
 group_done meaning stack dict section group = λ kind situation. grouped section kind (out-Group group).overrides (formed (out-Group group).form (map (statement_done meaning stack dict section) (out-Group group).statements) situation)
+
+-- What the block of an arm means.
+abbrev pub arm_done : {M : Type 0} → Meaning M → List M → Definitions → Section → Arm → Piece
+arm_done meaning stack dict section arm = arm_block section (map (statement_done meaning stack dict section) (out-Arm arm).statements)
+
+-- What an arm asks, and what its block means.
+abbrev pub arm_asked : {M : Type 0} → Meaning M → List M → Definitions → Section → Arm → Test × Piece
+arm_asked meaning stack dict section arm = (asks dict (out-Arm arm).condition, arm_done meaning stack dict section arm)
+
+-- What an `if` means: the conditions are tried in order, up to the first that holds, and the block behind it runs.
+abbrev pub if_done : {M : Type 0} → Meaning M → List M → Definitions → Section → List Arm → Piece
+if_done meaning stack dict section arms = branched (map (arm_asked meaning stack dict section) arms)
 
 -- What statements mean, one after the other, in a group of a kind.
 abbrev pub run_of : {M : Type 0} → Meaning M → List M → Definitions → Section → GroupKind → List Statement → Situation → Outcome

@@ -17,7 +17,12 @@ ghost use Rattle.unlang_tree.specs.declared.update.Line.{Line};
 ghost use Rattle.unlang_tree.specs.declared.statement.Statement.{Statement};
 ghost use Rattle.unlang_code.specs.Frames.{edits_of, goes_to};
 ghost use Rattle.unlang_code.specs.Leaves.{EachLeaf, LeafKeeps};
-ghost use Rattle.unlang_code.specs.Run.{section_done, updated};
+ghost use Rattle.rad_value.specs.declared.scope.Scope.{Scope};
+ghost use Rattle.unlang_cond.specs.Tests.{OnlyCaptures};
+ghost use Rattle.unlang_tree.specs.declared.statement.Arm.{Arm, out-Arm};
+ghost use Rattle.unlang_code.specs.Branches.{NoneHolds};
+ghost use Rattle.unlang_code.specs.Choosing.{asks};
+ghost use Rattle.unlang_code.specs.Run.{section_done, updated, in_scope, nothing, arm_done, if_done};
 ghost use Rattle.rad_tables.specs.declared.action_table.Action.TheVariants as action;
 ghost use Rattle.unlang_tree.specs.declared.policies.ServerTree.{ServerTree};
 ghost use Rattle.unlang_code.specs.declared.section_id.SectionId.{SectionId};
@@ -83,4 +88,16 @@ pub fn redundant_blocks_end_with_a_success<M: Module>()
 /// A `load-balance` block with members runs exactly one of them, the picked one.
 pub fn load_balance_blocks_run_one_member<M: Module>()
     ensures { (stack : List M) (dict : Definitions) (kind : Section) (first : Statement) (others : List Statement) (situation : Situation) → RunsOne M.meaning stack dict kind (first ∷ others) situation }
+{}
+
+/// An `if` runs the first arm whose condition holds: it does what the block of that arm does in the scope that the questions up
+/// to its own left, whatever arms stand behind it, so that no condition behind it is looked at; and an `else` is always taken.
+/// Where no condition holds nothing is done and the `if` is no child. The questions leave all of the scope but its captures.
+pub fn ifs_run_the_first_arm_that_holds<M: Module>()
+    ensures first { (stack : List M) (dict : Definitions) (section : Section) (before : List Arm) (arm : Arm) (later : List Arm) (kind : GroupKind) (situation : Situation) (so_far : Scope) (now : Scope)
+        → NoneHolds dict before situation.scope so_far → asks dict (out-Arm arm).condition so_far ≡ (true, now)
+        → if_done M.meaning stack dict section (before ++ arm ∷ later) kind situation ≡ arm_done M.meaning stack dict section arm kind (in_scope now situation) }
+    ensures none { (stack : List M) (dict : Definitions) (section : Section) (arms : List Arm) (kind : GroupKind) (situation : Situation) (now : Scope) → NoneHolds dict arms situation.scope now
+        → if_done M.meaning stack dict section arms kind situation ≡ nothing (in_scope now situation) }
+    ensures captures { (dict : Definitions) (arms : List Arm) (before : Scope) (now : Scope) → NoneHolds dict arms before now → OnlyCaptures before now }
 {}

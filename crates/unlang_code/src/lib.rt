@@ -5,6 +5,7 @@
 //! Above it stand the programs that serve requests.
 #![tactic(auto)]
 
+mod arms;
 mod judgement;
 mod laws;
 mod members;
@@ -17,9 +18,9 @@ mod update;
 
 pub use laws::{
     ListFact, found_sections_stand, groups_answer_as_their_children,
-    load_balance_blocks_run_one_member, redundant_blocks_end_with_a_success,
-    sections_keep_their_frames, sections_keep_what_their_statements_keep,
-    updates_leave_other_lists,
+    ifs_run_the_first_arm_that_holds, load_balance_blocks_run_one_member,
+    redundant_blocks_end_with_a_success, sections_keep_their_frames,
+    sections_keep_what_their_statements_keep, updates_leave_other_lists,
 };
 pub use observer::{Observer, Silent};
 pub use section_id::SectionId;

@@ -1,7 +1,7 @@
 //! What a statement gives its group, and the member at which a block that balances begins.
 
 ghost use Rattle.std.specs.Prelude.{◌≡◌, length};
-ghost use Rattle.unlang_code.specs.Progressing.{child_done, return_done, as_done};
+ghost use Rattle.unlang_code.specs.Progressing.{child_done, return_done, untaken_done, as_done};
 ghost use Rattle.unlang_code.specs.Run.{picked_of};
 
 use crate::judgement::{Child, child_of};
@@ -27,6 +27,16 @@ pub(crate) fn returned() -> Done
 {
     Done {
         signal: Signal::Returns,
+        child: None,
+    }
+}
+
+/// An `if` of which no arm is taken. It is no child.
+pub(crate) fn not_taken() -> Done
+    ensures { result ≡ untaken_done }
+{
+    Done {
+        signal: Signal::Goes,
         child: None,
     }
 }

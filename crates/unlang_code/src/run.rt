@@ -6,13 +6,15 @@ ghost use Rattle.rad_words.specs.declared.sections.Section.TheVariants.{Accounti
 ghost use Rattle.rad_outside.specs.Moments.{IsInTime};
 ghost use Rattle.mod_base.specs.Reaching.{Reaches, Stops};
 ghost use Rattle.unlang_tree.specs.EachCall.{calls_in, calls_in_kind};
+ghost use Rattle.unlang_tree.specs.declared.statement.Arm.{Arm, out-Arm};
 ghost use Rattle.unlang_tree.specs.declared.statement.Group.{out-Group};
-ghost use Rattle.unlang_code.specs.Run.{called, update_code, one_child, IsUpdate, kind_done, statement_done, run_of, formed, rotated, balanced_in, group_done, section_done};
+ghost use Rattle.unlang_code.specs.Run.{called, update_code, one_child, IsUpdate, kind_done, statement_done, run_of, formed, rotated, balanced_in, group_done, arm_done, if_done, section_done};
 ghost use Rattle.unlang_code.specs.Progressing.{come_to, done_in, ends_as};
 ghost use Rattle.unlang_code.specs.Serving.{IsServed, AreServed};
 
+use crate::arms::taken_of;
 use crate::judgement::{Child, child_of, default_code};
-use crate::members::{as_done, of_child, picked, returned};
+use crate::members::{as_done, not_taken, of_child, picked, returned};
 use crate::observer::Observer;
 use crate::progress::{Done, Ended, Progress, absorbed, end_of};
 use crate::update::do_lines;
@@ -23,7 +25,7 @@ use rad_tables::GroupKind;
 use rad_value::Scope;
 use rad_words::{Code, Section};
 use std::alloc::Global;
-use unlang_tree::{Call, Group, GroupForm, Line, Statement, StatementKind};
+use unlang_tree::{Arm, Call, Group, GroupForm, Line, Statement, StatementKind};
 
 /// Calls a module, whose code is the last code.
 fn call<M: Module, W: World>(
@@ -107,6 +109,17 @@ fn run_kind<M: Module, W: World, O: Observer>(
             let child = update(alloc, section, kind, lines.as_slice(), scope, dict)?;
             Ok(of_child(child))
         }
+        StatementKind::If(arms) => run_if(
+            alloc,
+            stack,
+            section,
+            kind,
+            arms.as_slice(),
+            scope,
+            world,
+            dict,
+            observer,
+        ),
     }
 }
 
@@ -353,6 +366,69 @@ fn run_group<M: Module, W: World, O: Observer>(
         observer,
     )?;
     Ok(as_done(section, kind, group.overrides.as_slice(), ended))
+}
+
+/// Runs the block of an arm of an `if`, and judges it in its group.
+#[cycle(running)]
+fn run_arm<M: Module, W: World, O: Observer>(
+    alloc: Global,
+    stack: &Stack<M>,
+    section: Section,
+    kind: GroupKind,
+    arm: &Arm,
+    scope: &mut Scope,
+    world: &mut W,
+    dict: &Dict,
+    observer: &mut O,
+) -> Result<Done, NoMemory>
+    requires served { AreServed M.meaning stack.now section (out-Arm arm.now).statements }
+    requires in_time { IsInTime scope.old.moment }
+    requires changes { section ≡ Accounting → (W.state world.old).takes_changes ≡ true }
+    ensures ok { IfOk result (λ value. Reaches scope.old (W.state world.old) (arm_done M.meaning stack.now dict.now section arm.now kind) scope.new (W.state world.new) (done_in value)) }
+    ensures in_time { OnOk result (IsInTime scope.new.moment) }
+    ensures memory { OnErr result (Stops scope.old (W.state world.old) (λ s. (arm_done M.meaning stack.now dict.now section arm.now kind s).situation.effects) (W.state world.new)) }
+{
+    let ended = run_in_order(
+        alloc,
+        stack,
+        section,
+        GroupKind::Plain,
+        arm.statements.as_slice(),
+        scope,
+        world,
+        dict,
+        observer,
+    )?;
+    Ok(as_done(section, kind, &[], ended))
+}
+
+/// Tries the conditions of an `if` up to the first that holds, and runs the block behind it. Where none holds nothing runs.
+#[cycle(running)]
+fn run_if<M: Module, W: World, O: Observer>(
+    alloc: Global,
+    stack: &Stack<M>,
+    section: Section,
+    kind: GroupKind,
+    arms: &[Arm],
+    scope: &mut Scope,
+    world: &mut W,
+    dict: &Dict,
+    observer: &mut O,
+) -> Result<Done, NoMemory>
+    requires served { AllByRecursion (λ (arm : Arm). AreServed M.meaning stack.now section (out-Arm arm).statements) arms.now }
+    requires in_time { IsInTime scope.old.moment }
+    requires changes { section ≡ Accounting → (W.state world.old).takes_changes ≡ true }
+    ensures ok { IfOk result (λ value. Reaches scope.old (W.state world.old) (if_done M.meaning stack.now dict.now section arms.now kind) scope.new (W.state world.new) (done_in value)) }
+    ensures in_time { OnOk result (IsInTime scope.new.moment) }
+    ensures memory { OnErr result (Stops scope.old (W.state world.old) (λ s. (if_done M.meaning stack.now dict.now section arms.now kind s).situation.effects) (W.state world.new)) }
+{
+    let taken = taken_of(alloc, arms, scope, dict)?;
+    match taken {
+        Some(arm) => run_arm(
+            alloc, stack, section, kind, arm, scope, world, dict, observer,
+        ),
+        None => Ok(not_taken()),
+    }
 }
 
 /// Runs the statements of a section from its beginning, and answers its code.

@@ -22,7 +22,7 @@ use std::marker::Model;
 use unlang_tree::{Policies, SectionTree, ServerTree, Statement, Subsection};
 
 /// The sections of a site's servers, ready to run. A table shares the source trees.
-#[derive(Debug, Drop)]
+#[derive(Drop)]
 pub struct Table {
     policies: Policies,
 }

@@ -1,8 +1,6 @@
 -- The offset of a fault: what stands there.
-use Rattle.std.proofs.Common.{◌≡◌, ℕ, ◌<◌, ◌^◌, true, eqb, List, [], ◌∷◌, ◌++◌, length, Option, Some, None, slice_index, inl, inr, refl, sym, ap, subst, ◌∙◌, length-append, arith}
+use Rattle.std.proofs.Common.{◌≡◌, ℕ, ◌<◌, ◌^◌, true, eqb, List, [], ◌∷◌, ◌++◌, length, Option, Some, None, Result, Err, slice_index, inl, inr, refl, sym, ap, subst, ◌∙◌, length-append, arith}
 use Rattle.std.proofs.lemmas.List.{append-nil}
-use Rattle.std.specs.Option.{option_map}
-use Rattle.std.specs.Prelude.{unwrap_or}
 use Rattle.rad_dict.specs.Definitions.{Definitions}
 use Rattle.unlang_cond.specs.declared.atom.Pattern.{Pattern}
 use Rattle.unlang_cond.specs.declared.atom.Token.{Token}
@@ -12,8 +10,9 @@ use Rattle.unlang_cond.specs.declared.fault.Wrong.{Wrong}
 use Rattle.unlang_cond.specs.declared.fault.Wrong.TheVariants.{BadCondition, UnknownAttr}
 use Rattle.unlang_cond.specs.Faults.{offset_of, fault_of}
 use Rattle.unlang_cond.specs.Tokens.{tokens_of}
-use Rattle.unlang_cond.specs.Steps.{pattern_in, Refuses, RefusesAt}
-use Rattle.unlang_cond.specs.Conditions.{IsFaultOf}
+use Rattle.unlang_cond.specs.Steps.{pattern_in, first_refused}
+use Rattle.unlang_cond.proofs.Refused.{Refuses, RefusesAt, refused_among}
+use Rattle.unlang_cond.specs.Conditions.{judged, reading_of, IsFaultOf}
 use Rattle.unlang_cond.specs.Places.{HasOctet, IsToldAt}
 use Rattle.unlang_cond.proofs.FaultSpots.{IsClear, AtOctet, IsWrongAt, IsSlash}
 use Rattle.unlang_cond.proofs.FaultReadings.{HaveSlashes, IsWrongOr, text_fault}
@@ -56,11 +55,6 @@ wrong_there text (BadCondition left) small at = part_there text at.is_left.front
 wrong_there text (UnknownAttr left) small (inl at) = inl (octet_there text 38 left small at)
 wrong_there text (UnknownAttr left) small (inr at) = inr (octet_there text 34 left small at)
 
-told_by : (dict : Definitions) (text : List ℕ) (wrong : Option Wrong) (told : CondFault) → length text < 2 ^ 32 → IsWrongOr dict text wrong → option_map (fault_of (length text)) wrong ≡ Some told → IsToldAt text told
-told_by dict text None told small at e = absurd cc
-told_by dict text (Some wrong) told small at e =
-    subst (IsToldAt text) (ap (λ (o : Option CondFault). unwrap_or o told) e) (wrong_there text wrong small at)
-
 slash_of : (dict : Definitions) (text : List ℕ) (pattern : Option Pattern) (left : ℕ) → IsSlash text pattern → Refuses pattern left → AtOctet text left 47
 slash_of dict text None left slash refused = absurd refused
 slash_of dict text (Some pattern) left slash refused = subst (λ (n : ℕ). AtOctet text n 47) refused.0 slash
@@ -70,10 +64,20 @@ slash_among dict text [] left are refused = absurd refused
 slash_among dict text (t ∷ tokens) left are (inl here) = slash_of dict text (pattern_in t) left are.0 here
 slash_among dict text (t ∷ tokens) left are (inr later) = slash_among dict text tokens left are.1 later
 
+err_same : {A F : Type 0} (x y : F) → ◌≡◌ {A = Result A F} (Err x) (Err y) → x ≡ y
+err_same x y e = cc
+
+told_as : (dict : Definitions) (text : List ℕ) (told : CondFault) (tokens : List Token) (refused : Option ℕ) (wrong : Option Wrong) → length text < 2 ^ 32 → refused ≡ first_refused tokens
+    → HaveSlashes dict text tokens → IsWrongOr dict text wrong → judged (length text) refused tokens wrong ≡ Err told → IsToldAt text told
+told_as dict text told tokens (Some left) wrong small same slashes at e =
+    subst (IsToldAt text) (err_same (fault.BadPattern (offset_of (length text) left)) told e)
+    (octet_there text 47 left small (slash_among dict text tokens left slashes (refused_among tokens left (sym same))))
+told_as dict text told tokens None (Some wrong) small same slashes at e =
+    subst (IsToldAt text) (err_same (fault_of (length text) wrong) told e) (wrong_there text wrong small at)
+told_as dict text told tokens None None small same slashes at e = absurd cc
+
 pub fault_told : (dict : Definitions) (text : List ℕ) (told : CondFault) → length text < 2 ^ 32 → IsFaultOf told text dict → IsToldAt text told
-fault_told dict text (fault.BadCondition offset) small e = told_by dict text (tokens_of text dict).1 (fault.BadCondition offset) small (text_fault dict text).1 e
-fault_told dict text (fault.UnknownAttr offset) small e = told_by dict text (tokens_of text dict).1 (fault.UnknownAttr offset) small (text_fault dict text).1 e
-fault_told dict text (fault.BadPattern offset) small e =
-    let there = octet_there text 47 e.0 small (slash_among dict text (tokens_of text dict).0 e.0 (text_fault dict text).0 e.1) in
-    subst (λ (n : ℕ). HasOctet text n 47) (sym e.2) there
-fault_told dict text fault.NoMemory small e = tt
+unfolding reading_of
+fault_told dict text told small (inl none) = subst (IsToldAt text) (sym none) tt
+fault_told dict text told small (inr e) =
+    told_as dict text told (tokens_of text dict).0 (first_refused (tokens_of text dict).0) (tokens_of text dict).1 small refl (text_fault dict text).0 (text_fault dict text).1 e

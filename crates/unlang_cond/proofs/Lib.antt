@@ -3,6 +3,8 @@ pub mod Digits
 pub mod Located
 pub mod Meant
 pub mod Evaluated
+pub mod Refused
+pub mod Judged
 pub mod Ready
 pub mod Expanding
 pub mod WrittenWords

@@ -1,12 +1,13 @@
 -- Steps that are made of tokens, one at a time, from the front.
-use Rattle.std.proofs.Common.{◌≡◌, ℕ, zero, suc, ◌<◌, Bool, length, get_or, arith, List, [], ◌∷◌, ◌++◌, reverse, Option, Some, None, refl, sym, ap, ◌∙◌, inl, inr, append_assoc, subst}
+use Rattle.std.proofs.Common.{◌≡◌, ℕ, zero, suc, ◌<◌, Bool, length, get_or, arith, List, [], ◌∷◌, ◌++◌, reverse, Option, Some, None, refl, sym, ap, ◌∙◌, append_assoc, subst}
 use Rattle.std.proofs.lemmas.List.{map-append, reverse-append}
 use Rattle.rad_text.specs.declared.read.ReadError.{ReadError}
 use Rattle.rad_text.specs.declared.read.ReadError.TheVariants as errors
 use Rattle.unlang_cond.specs.declared.atom.Token.{Token}
 use Rattle.unlang_cond.specs.declared.groups.Step.{Step}
 use Rattle.unlang_cond.specs.declared.atom.Pattern.{Pattern}
-use Rattle.unlang_cond.specs.Steps.{tokens_in, pattern_in, IsReady, IsReadyStep, AreReady, IsFit, AreFit, Refuses, RefusedBy, RefusesAt, RefusedIn}
+use Rattle.unlang_cond.specs.Steps.{tokens_in, pattern_in, IsReady, IsReadyStep, AreReady, IsFit, AreFit, first_refused, RefusedBy, RefusedIn}
+use Rattle.unlang_cond.proofs.Refused.{refused_behind, refused_first}
 
 turned : (unread new : List Token) (t : Token) → unread ≡ new ++ t ∷ [] → reverse unread ≡ t ∷ reverse new
 turned unread new t e = ap reverse e ∙ reverse-append new (t ∷ [])
@@ -21,16 +22,12 @@ pub all_ready : (steps : List Step) (t : Token) (step : Step) → AreReady steps
 all_ready [] t step before ready = (record { token_is = refl; ready = (rw ready.token_is ready.ready) }, tt)
 all_ready (x ∷ steps) t step before ready = (before.0, all_ready steps t step before.1 ready)
 
-refuses_behind : (front : List Token) (t : Token) (back : List Token) (left : ℕ) → Refuses (pattern_in t) left → RefusesAt (front ++ t ∷ back) left
-refuses_behind [] t back left refused = inl refused
-refuses_behind (x ∷ front) t back left refused = inr (refuses_behind front t back left refused)
-
-pub refused_in : (error : ReadError ℕ) (all front : List Token) (t : Token) (unread new : List Token) → front ++ reverse unread ≡ all → unread ≡ new ++ t ∷ []
+pub refused_in : (error : ReadError ℕ) (all front : List Token) (t : Token) (unread new : List Token) → AreFit front → front ++ reverse unread ≡ all → unread ≡ new ++ t ∷ []
     → RefusedBy error (pattern_in t) → RefusedIn error all
-refused_in errors.NoMemory all front t unread new e pop refused = tt
-refused_in (errors.Wrong left) all front t unread new e pop refused =
+refused_in errors.NoMemory all front t unread new fit e pop refused = tt
+refused_in (errors.Wrong left) all front t unread new fit e pop refused =
     let whole : front ++ t ∷ reverse new ≡ all = ap (λ (xs : List Token). front ++ xs) (sym (turned unread new t pop)) ∙ e in
-    subst (λ (ts : List Token). RefusesAt ts left) whole (refuses_behind front t (reverse new) left refused)
+    ap first_refused (sym whole) ∙ refused_behind front (t ∷ reverse new) fit ∙ refused_first t (reverse new) left refused
 
 fit_of : (pattern : Option Pattern) (compiled : Option (List ℕ × Bool)) → IsReady pattern compiled → IsFit pattern
 fit_of None compiled ready = tt

@@ -6,6 +6,7 @@ use Rattle.std.proofs.Math.Seq.{take-append_seam}
 use Rattle.std.specs.Char.{to_ascii_lowercase}
 use Rattle.rad_words.specs.declared.codes.Code.{Code}
 use Rattle.rad_words.specs.declared.codes.Code.TheVariants as code
+use Rattle.rad_words.specs.Codes.{code_name, code_named}
 use Rattle.rad_value.specs.declared.comparison.Cmp.{Cmp}
 use Rattle.rad_value.specs.declared.comparison.Cmp.TheVariants.{Eq, Ne, Lt, Le, Gt, Ge}
 use Rattle.rad_text.specs.Blanks.{after_blanks}
@@ -24,9 +25,10 @@ use Rattle.unlang_cond.specs.declared.operator.Relation.TheVariants.{Nothing, Co
 use Rattle.unlang_cond.specs.Words.{ends_bare, bare_len}
 use Rattle.unlang_cond.specs.Operators.{long_relation, relation_of, relation_at}
 use Rattle.unlang_cond.specs.Sides.{side_at}
-use Rattle.unlang_cond.specs.Atoms.{is_name, constant_of, code_of, named_lead, flag_at, pattern_at, compared, compared_at, looked_at, related, atom_at}
+use Rattle.unlang_cond.specs.Atoms.{is_name, constant_of, named_lead, flag_at, pattern_at, compared, compared_at, looked_at, related, atom_at}
 use Rattle.unlang_cond.specs.Outlines.{unplaced}
-use Rattle.unlang_cond.specs.Written.{IsGap, nothing, space, tab, IsBare, last_joins, is_parted, constant_name, code_name, comparison_sign, look_sign, flag, IsQuotedSide, single, double, IsLeft, left_reference, left_name, left_quoted, IsOperand, against_reference, against_value, against_expansion, IsAtom, constant, returned, present, values, texts, look}
+use Rattle.unlang_cond.specs.Written.{IsGap, nothing, space, tab, IsBare, last_joins, is_parted, constant_name, comparison_sign, look_sign, flag, IsQuotedSide, single, double, IsLeft, left_reference, left_name, left_quoted, IsOperand, against_reference, against_value, against_expansion, IsAtom, constant, returned, present, values, texts, look}
+use Rattle.rad_words.proofs.CodesNamed.{codes_are_read}
 use Rattle.unlang_cond.proofs.WrittenWords.{Follows, word_len, marked_len, taken, left_over, bare_apart, Front, front_of, marked_front, front_append, Ends, at_end, at_space, at_tab, at_close, at_and, at_or, ends_follow, gap_passed}
 use Rattle.unlang_cond.proofs.WrittenSides.{quoted_end, behind_quote, quoted_read, begins_quoted, quoted_front, right_read, right_front}
 
@@ -35,9 +37,8 @@ constant_is : (word name : List ℕ) → is_name word name ≡ true → constant
 unfolding constant_of
 constant_is word name e = let same = (bytes_eq-Decides (map to_ascii_lowercase word) (map to_ascii_lowercase name)).0 e in rw (same, constant_of) refl
 
-code_is : (word name : List ℕ) → is_name word name ≡ true → code_of word ≡ code_of name
-unfolding code_of
-code_is word name e = let same = (bytes_eq-Decides (map to_ascii_lowercase word) (map to_ascii_lowercase name)).0 e in rw (same, code_of) refl
+code_is : (word name : List ℕ) → is_name word name ≡ true → code_named word ≡ code_named name
+code_is word name e = let same = (bytes_eq-Decides (map to_ascii_lowercase word) (map to_ascii_lowercase name)).0 e in rw (same, code_named) refl
 
 constant_named : (one : Bool) → constant_of (constant_name one) ≡ Some one
 unfolding constant_of
@@ -55,18 +56,6 @@ code_unlike code.Userlock = refl
 code_unlike code.Notfound = refl
 code_unlike code.Noop = refl
 code_unlike code.Updated = refl
-
-code_named : (one : Code) → code_of (code_name one) ≡ Some one
-unfolding code_of
-code_named code.Reject = refl
-code_named code.Fail = refl
-code_named code.Ok = refl
-code_named code.Handled = refl
-code_named code.Invalid = refl
-code_named code.Userlock = refl
-code_named code.Notfound = refl
-code_named code.Noop = refl
-code_named code.Updated = refl
 
 -- An operator is read where it is written.
 comparison_read : (cmp : Cmp) (more : List ℕ) → eqb (slice_index more 0) 61 ≡ false → relation_at (comparison_sign cmp ++ more) ≡ (Compares cmp, more)
@@ -154,7 +143,7 @@ module _ (dict : Definitions) where
       let apart = bare_apart is in
       rw (apart.double, apart.single, taken (c ∷ word) rest len, left_over (c ∷ word) rest len, apart.marked, e, named_lead, atom_at) refl
 
-  code_read : {c : ℕ} {word : List ℕ} → IsBare (c ∷ word) → (rest : List ℕ) → Follows (c ∷ word) rest → (one : Code) → constant_of (c ∷ word) ≡ None → code_of (c ∷ word) ≡ Some one
+  code_read : {c : ℕ} {word : List ℕ} → IsBare (c ∷ word) → (rest : List ℕ) → Follows (c ∷ word) rest → (one : Code) → constant_of (c ∷ word) ≡ None → code_named (c ∷ word) ≡ Some one
       → atom_at (c ∷ (word ++ rest)) dict ≡ Ok (atom.Returned one, rest)
   unfolding atom_at named_lead
   code_read {c} {word} is rest follows one none e =
@@ -162,7 +151,7 @@ module _ (dict : Definitions) where
       let apart = bare_apart is in
       rw (apart.double, apart.single, taken (c ∷ word) rest len, left_over (c ∷ word) rest len, apart.marked, none, e, named_lead, atom_at) refl
 
-  name_read : {c : ℕ} {word : List ℕ} → IsBare (c ∷ word) → (rest : List ℕ) → Follows (c ∷ word) rest → (reference : Reference) → constant_of (c ∷ word) ≡ None → code_of (c ∷ word) ≡ None
+  name_read : {c : ℕ} {word : List ℕ} → IsBare (c ∷ word) → (rest : List ℕ) → Follows (c ∷ word) rest → (reference : Reference) → constant_of (c ∷ word) ≡ None → code_named (c ∷ word) ≡ None
       → named_alone (c ∷ word) dict ≡ Some reference → atom_at (c ∷ (word ++ rest)) dict ≡ related (side.Reference reference) rest dict
   unfolding atom_at named_lead
   name_read {c} {word} is rest follows reference none neither e =
@@ -279,7 +268,7 @@ module _ (dict : Definitions) where
   atom_read (returned one c word is e) {rest} ends =
       record {
         one = atom.Returned one;
-        reads = code_read is rest (ends_follow ends (c ∷ word)) one (constant_is (c ∷ word) (code_name one) e ∙ code_unlike one) (code_is (c ∷ word) (code_name one) e ∙ code_named one);
+        reads = code_read is rest (ends_follow ends (c ∷ word)) one (constant_is (c ∷ word) (code_name one) e ∙ code_unlike one) (code_is (c ∷ word) (code_name one) e ∙ codes_are_read one);
         same = refl;
       }
   atom_read (present one text is) {rest} ends = record { one = atom.Present one; reads = left_ends is ends ∙ present_read one ends; same = refl }

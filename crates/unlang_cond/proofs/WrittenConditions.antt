@@ -1,5 +1,5 @@
 -- A whole condition that is written is read as its tree, and is refused for a pattern alone.
-use Rattle.std.proofs.Common.{◌≡◌, ℕ, Bool, true, false, List, [], ◌∷◌, ◌++◌, length, map, Option, Some, None, inl, inr, refl, ap, ◌∙◌, subst}
+use Rattle.std.proofs.Common.{◌≡◌, ℕ, Bool, true, false, List, [], ◌∷◌, ◌++◌, length, map, Option, Some, None, inl, inr, refl, sym, ap, ◌∙◌, subst, Err}
 use Rattle.std.proofs.lemmas.List.{append-nil}
 use Rattle.std.specs.Option.{option_map}
 use Rattle.std.specs.Prelude.{◌⊎◌}
@@ -8,13 +8,13 @@ use Rattle.rad_dict.specs.Definitions.{Definitions}
 use Rattle.unlang_cond.specs.declared.atom.Token.{Token}
 use Rattle.unlang_cond.specs.declared.atom.Token.TheVariants as token
 use Rattle.unlang_cond.specs.declared.fault.CondFault.{CondFault}
-use Rattle.unlang_cond.specs.declared.fault.CondFault.TheVariants.{BadCondition, UnknownAttr, BadPattern, NoMemory}
+use Rattle.unlang_cond.specs.declared.fault.CondFault.TheVariants.{NoMemory}
 use Rattle.unlang_cond.specs.declared.fault.Wrong.{Wrong}
-use Rattle.unlang_cond.specs.Faults.{fault_of}
 use Rattle.unlang_cond.specs.Tokens.{tokens_of}
-use Rattle.unlang_cond.specs.Steps.{RefusesAt}
+use Rattle.unlang_cond.specs.Steps.{first_refused}
+use Rattle.unlang_cond.proofs.Refused.{RefusesAt, refused_among}
 use Rattle.unlang_cond.specs.Trees.{Tree, Leaf, Branch, fresh, anded, ored, negating, chained, whole, given, closed, grown_by, grow, grown, innermost, tree_of}
-use Rattle.unlang_cond.specs.Conditions.{made_of, condition_of, IsFaultOf}
+use Rattle.unlang_cond.specs.Conditions.{made_of, condition_of, judged, reading_of, IsFaultOf}
 use Rattle.unlang_cond.specs.Outlines.{outline, HasRefused}
 use Rattle.unlang_cond.specs.Written.{IsGap, nothing, space, tab, IsCondition, condition}
 use Rattle.unlang_cond.proofs.Turns.{Enough, starts, is_done}
@@ -116,12 +116,16 @@ module _ (dict : Definitions) where
       let written = tokens_written is in
       ap (λ (r : List Token × Option Wrong). option_map outline (made_of r.0 r.1)) written.are ∙ ap Some (outline_tree written.tokens ∙ written.make)
 
+  refused_by : (tokens : List Token) (size : ℕ) (tree : Tree) (told : CondFault) (refused : Option ℕ) → refused ≡ first_refused tokens → ((left : ℕ) → RefusesAt tokens left → HasRefused tree)
+      → judged size refused tokens None ≡ Err told → HasRefused tree
+  refused_by tokens size tree told None same refuses e = absurd cc
+  refused_by tokens size tree told (Some left) same refuses e = refuses left (refused_among tokens left (sym same))
+
   pub condition_accepted : (tree : Tree) (text : List ℕ) (fault : CondFault) → IsCondition dict tree text → IsFaultOf fault text dict → (fault ≡ NoMemory) ⊎ HasRefused tree
-  condition_accepted tree text (BadCondition offset) is fault =
-      let e = ap (λ (r : List Token × Option Wrong). option_map (fault_of (length text)) r.1) (tokens_written is).are in absurd cc
-  condition_accepted tree text (UnknownAttr offset) is fault =
-      let e = ap (λ (r : List Token × Option Wrong). option_map (fault_of (length text)) r.1) (tokens_written is).are in absurd cc
-  condition_accepted tree text (BadPattern offset) is fault =
+  unfolding reading_of
+  condition_accepted tree text fault is (inl none) = inl none
+  condition_accepted tree text fault is (inr e) =
       let written = tokens_written is in
-      inr (written.refuses fault.0 (subst (λ (ts : List Token). RefusesAt ts fault.0) (ap (λ (r : List Token × Option Wrong). r.0) written.are) fault.1))
-  condition_accepted tree text NoMemory is fault = inl refl
+      let read : judged (length text) (first_refused written.tokens) written.tokens None ≡ Err fault =
+      ap (λ (r : List Token × Option Wrong). judged (length text) (first_refused r.0) r.0 r.1) (sym written.are) ∙ e in
+      inr (refused_by written.tokens (length text) tree fault (first_refused written.tokens) refl written.refuses read)

@@ -12,7 +12,8 @@ use Rattle.unlang_cond.specs.declared.atom.Token.TheVariants as token
 use Rattle.unlang_cond.specs.declared.fault.Wrong.{Wrong}
 use Rattle.unlang_cond.specs.Atoms.{atom_at}
 use Rattle.unlang_cond.specs.Tokens.{token_at, awaits_after, depth_after}
-use Rattle.unlang_cond.specs.Steps.{pattern_of_atom, Refuses, RefusesAt}
+use Rattle.unlang_cond.specs.Steps.{pattern_of_atom}
+use Rattle.unlang_cond.proofs.Refused.{Refuses, RefusesAt}
 use Rattle.unlang_cond.specs.Trees.{Tree, Leaf, And, Or, Branch, fresh, anded, negating, whole, given, grow, grown}
 use Rattle.unlang_cond.specs.Outlines.{unplaced, IsNotTaken, HasRefused}
 use Rattle.unlang_cond.specs.Written.{IsGap, IsAtom, AreSigns, no_sign, sign, IsFactor, alone, group, IsSigned, signed, IsAll, one_of_all, both, IsAny, one_of_any, either}

@@ -5,7 +5,7 @@ use Rattle.std.specs.Prelude.{ℕ, ◌+◌, Bool, true, false, ◌==◌, List, [
 use Rattle.std.specs.Option.{option_map}
 use Rattle.std.specs.Str.{str_eq_ignore_ascii_case}
 use Rattle.rad_words.specs.declared.codes.Code.{Code}
-use Rattle.rad_words.specs.declared.codes.Code.TheVariants as code
+use Rattle.rad_words.specs.Codes.{code_named}
 use Rattle.rad_text.specs.Read.{◌>>=◌, found}
 use Rattle.rad_text.specs.Blanks.{after_blanks}
 use Rattle.rad_conf.specs.Words.{quoted_len}
@@ -37,24 +37,11 @@ is_name word name = str_eq_ignore_ascii_case word name
 unfoldable pub constant_of : List ℕ → Option Bool
 constant_of word = if is_name word (codes "true") then Some true else (if is_name word (codes "false") then Some false else None)
 
--- The return code of this name.
-unfoldable pub code_of : List ℕ → Option Code
-code_of word =
-    if is_name word (codes "reject") then Some code.Reject
-    else (if is_name word (codes "fail") then Some code.Fail
-    else (if is_name word (codes "ok") then Some code.Ok
-    else (if is_name word (codes "handled") then Some code.Handled
-    else (if is_name word (codes "invalid") then Some code.Invalid
-    else (if is_name word (codes "userlock") then Some code.Userlock
-    else (if is_name word (codes "notfound") then Some code.Notfound
-    else (if is_name word (codes "noop") then Some code.Noop
-    else (if is_name word (codes "updated") then Some code.Updated else None))))))))
-
 -- What a bare word without `&` is at the front of an atom: a constant, else a return code, else an attribute's name.
 unfoldable pub named_lead : List ℕ → Definitions → Option Lead
 named_lead word dict = elim (constant_of word) [
   | Some constant ↦ Some (lead.Constant constant)
-  | None ↦ elim (code_of word) [
+  | None ↦ elim (code_named word) [
     | Some c ↦ Some (lead.Returned c)
     | None ↦ option_map lead.Reference (named_alone word dict)
   ]

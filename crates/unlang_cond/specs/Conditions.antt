@@ -1,15 +1,14 @@
 -- A condition that was read, and the first fault of one that can't be, after unlang(5). Where which fault stands is this project's
 -- own; an offset above the greatest of 32 bits is carried as that.
-use Rattle.std.specs.Prelude.{◌≡◌, ℕ, List, length, Option, Some, None}
-use Rattle.std.specs.Option.{option_map}
+use Rattle.std.specs.Prelude.{◌≡◌, ◌⊎◌, ℕ, List, length, Option, Some, None, Result, Ok, Err}
 use Rattle.rad_dict.specs.Definitions.{Definitions}
 use Rattle.unlang_cond.specs.declared.atom.Token.{Token}
 use Rattle.unlang_cond.specs.declared.fault.CondFault.{CondFault}
-use Rattle.unlang_cond.specs.declared.fault.CondFault.TheVariants.{BadCondition, UnknownAttr, BadPattern, NoMemory}
+use Rattle.unlang_cond.specs.declared.fault.CondFault.TheVariants.{BadPattern, NoMemory}
 use Rattle.unlang_cond.specs.declared.fault.Wrong.{Wrong}
 use Rattle.unlang_cond.specs.Tokens.{tokens_of}
 use Rattle.unlang_cond.specs.Faults.{offset_of, fault_of}
-use Rattle.unlang_cond.specs.Steps.{RefusesAt}
+use Rattle.unlang_cond.specs.Steps.{first_refused}
 use Rattle.unlang_cond.specs.Trees.{Tree, tree_of}
 
 -- The tree of tokens behind which nothing is wrong.
@@ -21,9 +20,21 @@ made_of tokens (Some wrong) = None
 abbrev pub condition_of : List ℕ → Definitions → Option Tree
 condition_of text dict = made_of (tokens_of text dict).0 (tokens_of text dict).1
 
--- The fault is what is wrong first; a pattern is refused that is read before that.
+-- The tree of tokens, or what is wrong behind them, in a text of this length.
+abbrev pub concluded : ℕ → List Token → Option Wrong → Result Tree CondFault
+concluded length tokens None = Ok (tree_of tokens)
+concluded length tokens (Some wrong) = Err (fault_of length wrong)
+
+-- The same, but for a pattern of them that is refused, which goes before.
+abbrev pub judged : ℕ → Option ℕ → List Token → Option Wrong → Result Tree CondFault
+judged length None tokens wrong = concluded length tokens wrong
+judged length (Some left) tokens wrong = Err (BadPattern (offset_of length left))
+
+-- What a text is read as under a dictionary: the condition that it says, or its first fault. Which it is is a function of the
+-- text and the dictionary alone.
+unfoldable pub reading_of : List ℕ → Definitions → Result Tree CondFault
+reading_of text dict = judged (length text) (first_refused (tokens_of text dict).0) (tokens_of text dict).0 (tokens_of text dict).1
+
+-- The fault is the first one of the text, unless memory ran out.
 abbrev pub IsFaultOf : CondFault → List ℕ → Definitions → Type 0
-IsFaultOf (BadCondition offset) text dict = option_map (fault_of (length text)) (tokens_of text dict).1 ≡ Some (BadCondition offset)
-IsFaultOf (UnknownAttr offset) text dict = option_map (fault_of (length text)) (tokens_of text dict).1 ≡ Some (UnknownAttr offset)
-IsFaultOf (BadPattern offset) text dict = (left : ℕ) × RefusesAt (tokens_of text dict).0 left × (offset ≡ offset_of (length text) left)
-IsFaultOf NoMemory text dict = Unit {0}
+IsFaultOf fault text dict = (fault ≡ NoMemory) ⊎ (reading_of text dict ≡ Err fault)

@@ -1,13 +1,10 @@
 -- Patterns, by the regular expressions of the crate `regex` over bytes, with its defaults: what one means is what its grammar
 -- reads in the text. That a pattern has no `%{` is this project's own.
-use Rattle.std.specs.Prelude.{◌≡◌, ◌≢◌, ◌⊎◌, ◌≤◌, IsTrue, ℕ, Bool, false, ◌&&◌, ◌||◌, ◌==◌, List, [], ◌∷◌, slice_index, Option, Some, None, IsSomeAnd, IsUtf8, chars}
+use Rattle.std.specs.Prelude.{◌≡◌, ◌≤◌, nat_le, ℕ, Bool, false, not, ◌&&◌, ◌||◌, ◌==◌, List, [], ◌∷◌, slice_index, Option, Some, None, IsSomeAnd, IsUtf8, chars}
+use Rattle.std.specs.Str.{is_utf8}
 use Rattle.regex.specs.declared.bytes.regex.Regex.{Regex}
-use Rattle.regex.specs.declared.error.Error.{Error}
-use Rattle.regex.specs.declared.error.Error.TheVariants.{OutOfMemory}
 use Rattle.regex.specs.Patterns.{Config, Re, default_config}
 use Rattle.regex.specs.Bytes.{regex_config, IsReadFromSource}
-use Rattle.regex.specs.Sources.{IsRefusal}
-use Rattle.regex.specs.Failures.{IsRightKind}
 use Rattle.regex_syntax.specs.Brackets.{Nested}
 use Rattle.regex_syntax.specs.Grammar.{Names, read}
 use Rattle.unlang_cond.specs.declared.atom.Pattern.{Pattern}
@@ -30,6 +27,15 @@ expression_of source insensitive = read (config_of insensitive) (chars source)
 abbrev pub IsReadable : List ℕ → Bool → Type 0
 IsReadable source insensitive = IsSomeAnd (expression_of source insensitive) (λ (re, names). re.depth ≤ default_config.nest_limit)
 
+-- What was read nests no deeper than that.
+abbrev pub is_within : Option (Nested Re × Names) → Bool
+is_within None = false
+is_within (Some reading) = nat_le reading.0.depth default_config.nest_limit
+
+-- A pattern is accepted where it contains no `%{`, is UTF-8, and writes a regular expression that nests no deeper than that.
+unfoldable pub is_accepted : List ℕ → Bool → Bool
+is_accepted source insensitive = not (has_expansion source) && is_utf8 source && is_within (expression_of source insensitive)
+
 -- Whether letters match in either case in a compiled pattern.
 abbrev pub is_insensitive : Regex → Bool
 is_insensitive regex = (regex_config regex).flags.case_insensitive
@@ -39,21 +45,14 @@ pub record IsOfText (regex : Regex) : Type 0 where
   pub config_is : regex_config regex ≡ config_of (is_insensitive regex)
   pub read : IsReadFromSource regex
 
--- `regex` refuses the text under these options, for another cause than memory.
-pub record IsRefusedByRegex (source : List ℕ) (insensitive : Bool) : Type 0 where
-  pub error : Error
-  pub not_memory : error ≢ OutOfMemory
-  pub by_grammar : IsRefusal (config_of insensitive) source error
-  pub kind : IsRightKind (config_of insensitive) source error
-
 -- What `regex` answers for a text: a compiled pattern that is known by its text and its options, or none.
 abbrev pub IsBuilt : List ℕ → Bool → Option (List ℕ × Bool) → Type 0
 IsBuilt source insensitive (Some compiled) = (compiled ≡ (source, insensitive)) × IsReadable source insensitive
-IsBuilt source insensitive None = IsRefusedByRegex source insensitive
+IsBuilt source insensitive None = is_within (expression_of source insensitive) ≡ false
 
--- A pattern is refused where it contains `%{`, is no UTF-8, or is refused by `regex`.
+-- A pattern is refused where it isn't accepted.
 abbrev pub IsRefused : Pattern → Type 0
-IsRefused pattern = IsTrue (has_expansion pattern.source) ⊎ (¬ IsUtf8 pattern.source) ⊎ IsRefusedByRegex pattern.source pattern.insensitive
+IsRefused pattern = is_accepted pattern.source pattern.insensitive ≡ false
 
 -- One that is taken contains no `%{`, is UTF-8, and writes a regular expression.
 pub record IsTaken (pattern : Pattern) : Type 0 where
@@ -61,7 +60,7 @@ pub record IsTaken (pattern : Pattern) : Type 0 where
   pub text : IsUtf8 pattern.source
   pub readable : IsReadable pattern.source pattern.insensitive
 
--- The pattern is taken and compiled, or it is refused.
+-- The pattern is taken and compiled, or it is refused, as its text says.
 abbrev pub IsAnswerTo : Pattern → Option (List ℕ × Bool) → Type 0
 IsAnswerTo pattern (Some compiled) = (compiled ≡ (pattern.source, pattern.insensitive)) × IsTaken pattern
 IsAnswerTo pattern None = IsRefused pattern

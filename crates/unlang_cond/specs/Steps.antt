@@ -1,5 +1,5 @@
 -- The steps of a condition: its tokens, each with its pattern compiled, or the refusal of a pattern. This project's own.
-use Rattle.std.specs.Prelude.{◌≡◌, ◌⊎◌, ℕ, Bool, List, [], ◌∷◌, map, Option, Some, None}
+use Rattle.std.specs.Prelude.{◌≡◌, ℕ, Bool, List, [], ◌∷◌, map, Option, Some, None, if◌then◌else◌}
 use Rattle.rad_text.specs.declared.read.ReadError.{ReadError}
 use Rattle.rad_text.specs.declared.read.ReadError.TheVariants as errors
 use Rattle.unlang_cond.specs.declared.atom.Pattern.{Pattern}
@@ -8,7 +8,7 @@ use Rattle.unlang_cond.specs.declared.atom.Atom.TheVariants as atom
 use Rattle.unlang_cond.specs.declared.atom.Token.{Token}
 use Rattle.unlang_cond.specs.declared.atom.Token.TheVariants as token
 use Rattle.unlang_cond.specs.declared.groups.Step.{Step}
-use Rattle.unlang_cond.specs.Patterns.{IsTaken, IsRefused}
+use Rattle.unlang_cond.specs.Patterns.{IsTaken, is_accepted}
 
 -- The tokens of steps.
 abbrev pub tokens_in : List Step → List Token
@@ -63,22 +63,27 @@ pub record AreSteps (tokens : List Token) (steps : List Step) : Type 0 where
   pub same : tokens_in steps ≡ tokens
   pub ready : AreReady steps
 
--- A pattern from which on so many octets are left is refused.
-abbrev pub Refuses : Option Pattern → ℕ → Type 0
-Refuses None left = ⊥
-Refuses (Some pattern) left = (pattern.left ≡ left) × IsRefused pattern
+-- How many octets are left from a pattern on, where there is one that is refused.
+abbrev pub refused_left : Option Pattern → Option ℕ
+refused_left None = None
+refused_left (Some pattern) = if is_accepted pattern.source pattern.insensitive then None else Some pattern.left
+
+-- The first of two, where it is there.
+abbrev pub earlier : Option ℕ → Option ℕ → Option ℕ
+earlier None later = later
+earlier (Some left) later = Some left
+
+-- How many octets are left from the first pattern of tokens on that is refused.
+unfoldable pub first_refused : List Token → Option ℕ
+first_refused [] = None
+first_refused (t ∷ tokens) = earlier (refused_left (pattern_in t)) (first_refused tokens)
 
 -- A pattern is refused there, unless memory ran out.
 abbrev pub RefusedBy : ReadError ℕ → Option Pattern → Type 0
 RefusedBy errors.NoMemory pattern = Unit {0}
-RefusedBy (errors.Wrong left) pattern = Refuses pattern left
+RefusedBy (errors.Wrong left) pattern = refused_left pattern ≡ Some left
 
--- One of the tokens has such a pattern.
-abbrev pub RefusesAt : List Token → ℕ → Type 0
-RefusesAt [] left = ⊥
-RefusesAt (t ∷ tokens) left = Refuses (pattern_in t) left ⊎ RefusesAt tokens left
-
--- One of the tokens has a pattern that is refused there, unless memory ran out.
+-- The first of the tokens' patterns that is refused is refused there, unless memory ran out.
 abbrev pub RefusedIn : ReadError ℕ → List Token → Type 0
 RefusedIn errors.NoMemory tokens = Unit {0}
-RefusedIn (errors.Wrong left) tokens = RefusesAt tokens left
+RefusedIn (errors.Wrong left) tokens = first_refused tokens ≡ Some left

@@ -3,7 +3,7 @@
 -- project's own.
 use Rattle.std.specs.Prelude.{◌≡◌, ℕ, Bool, true, false, not, ◌||◌, ◌==◌, List, [], ◌∷◌, ◌++◌, Some, None, Ok, codes}
 use Rattle.rad_words.specs.declared.codes.Code.{Code}
-use Rattle.rad_words.specs.declared.codes.Code.TheVariants as code
+use Rattle.rad_words.specs.Codes.{code_name, code_named}
 use Rattle.rad_value.specs.declared.values.Value.{Value}
 use Rattle.rad_value.specs.declared.comparison.Cmp.{Cmp}
 use Rattle.rad_value.specs.declared.comparison.Cmp.TheVariants.{Eq, Ne, Lt, Le, Gt, Ge}
@@ -24,7 +24,7 @@ use Rattle.unlang_cond.specs.declared.atom.Atom.{Atom}
 use Rattle.unlang_cond.specs.declared.atom.Atom.TheVariants as atom
 use Rattle.unlang_cond.specs.Expansions.{Expansion}
 use Rattle.unlang_cond.specs.Sides.{value_read}
-use Rattle.unlang_cond.specs.Atoms.{is_name, constant_of, code_of}
+use Rattle.unlang_cond.specs.Atoms.{is_name, constant_of}
 use Rattle.unlang_cond.specs.Trees.{Tree, Leaf, And, Or, negating}
 
 -- Blanks, and nothing else.
@@ -70,18 +70,6 @@ abbrev pub constant_name : Bool → List ℕ
 constant_name true = codes "true"
 constant_name false = codes "false"
 
--- The names of the return codes.
-abbrev pub code_name : Code → List ℕ
-code_name code.Reject = codes "reject"
-code_name code.Fail = codes "fail"
-code_name code.Ok = codes "ok"
-code_name code.Handled = codes "handled"
-code_name code.Invalid = codes "invalid"
-code_name code.Userlock = codes "userlock"
-code_name code.Notfound = codes "notfound"
-code_name code.Noop = codes "noop"
-code_name code.Updated = codes "updated"
-
 -- The operators of comparisons.
 abbrev pub comparison_sign : Cmp → List ℕ
 comparison_sign Eq = codes "=="
@@ -120,7 +108,7 @@ module _ (dict : Definitions) where
   -- text.
   pub data IsLeft : Side → List ℕ → Type 0 where
     left_reference : (reference : Reference) (c : ℕ) (word : List ℕ) → IsBare (c ∷ word) → reference_of (c ∷ word) dict ≡ Ok reference → IsLeft (side.Reference reference) (38 ∷ c ∷ word)
-    left_name : (reference : Reference) (c : ℕ) (word : List ℕ) → IsBare (c ∷ word) → constant_of (c ∷ word) ≡ None → code_of (c ∷ word) ≡ None → named_alone (c ∷ word) dict ≡ Some reference
+    left_name : (reference : Reference) (c : ℕ) (word : List ℕ) → IsBare (c ∷ word) → constant_of (c ∷ word) ≡ None → code_named (c ∷ word) ≡ None → named_alone (c ∷ word) dict ≡ Some reference
         → IsLeft (side.Reference reference) (c ∷ word)
     left_quoted : (one : Side) (text : List ℕ) → IsQuotedSide one text → IsLeft one text
 

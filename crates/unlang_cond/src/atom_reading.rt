@@ -3,7 +3,7 @@
 ghost use Rattle.std.specs.Prelude.{◌≡◌, ◌≤◌, ◌<◌, length, IfOk};
 ghost use Rattle.rad_text.specs.Read.{Gives};
 ghost use Rattle.unlang_cond.specs.Sides.{is_quoted, quoted_at};
-ghost use Rattle.unlang_cond.specs.Atoms.{constant_of, code_of, named_lead, lead_of, flag_at, pattern_at, compared, compared_at, looked_at, related, led_by, atom_at};
+ghost use Rattle.unlang_cond.specs.Atoms.{constant_of, named_lead, lead_of, flag_at, pattern_at, compared, compared_at, looked_at, related, led_by, atom_at};
 
 use crate::atom::{Atom, Pattern, Side};
 use crate::fault::Wrong;
@@ -42,34 +42,6 @@ fn constant_of(word: &[u8]) -> Option<bool>
     }
 }
 
-/// The return code of this name, in any case of its letters.
-#[tactic(auto, unfolding(crate::specs::Atoms::code_of))]
-fn code_of(word: &[u8]) -> Option<Code>
-    ensures { result ≡ code_of word.now }
-{
-    if word.eq_ignore_ascii_case(b"reject") {
-        Some(Code::Reject)
-    } else if word.eq_ignore_ascii_case(b"fail") {
-        Some(Code::Fail)
-    } else if word.eq_ignore_ascii_case(b"ok") {
-        Some(Code::Ok)
-    } else if word.eq_ignore_ascii_case(b"handled") {
-        Some(Code::Handled)
-    } else if word.eq_ignore_ascii_case(b"invalid") {
-        Some(Code::Invalid)
-    } else if word.eq_ignore_ascii_case(b"userlock") {
-        Some(Code::Userlock)
-    } else if word.eq_ignore_ascii_case(b"notfound") {
-        Some(Code::Notfound)
-    } else if word.eq_ignore_ascii_case(b"noop") {
-        Some(Code::Noop)
-    } else if word.eq_ignore_ascii_case(b"updated") {
-        Some(Code::Updated)
-    } else {
-        None
-    }
-}
-
 /// A bare word that doesn't begin with `&`, at the front of an atom.
 #[tactic(auto, unfolding(crate::specs::Atoms::named_lead))]
 fn named_lead(word: &[u8], dict: &Dict) -> Option<Lead>
@@ -78,7 +50,7 @@ fn named_lead(word: &[u8], dict: &Dict) -> Option<Lead>
     if let Some(constant) = constant_of(word) {
         return Some(Lead::Constant(constant));
     }
-    if let Some(code) = code_of(word) {
+    if let Some(code) = Code::named(word) {
         return Some(Lead::Returned(code));
     }
     let reference = named_alone(word, dict)?;

@@ -36,16 +36,18 @@ impl Model for Cond {
 }
 
 impl Cond {
-    ghost use Rattle.std.specs.Prelude.{Some, IfOk, IfErr, OnOk};
+    ghost use Rattle.std.specs.Prelude.{Some, Ok, IfOk, IfErr, OnOk};
     ghost use Rattle.rad_outside.specs.Moments.{IsInTime};
     ghost use Rattle.unlang_cond.specs.Tests.{OnlyCaptures};
     ghost use Rattle.unlang_cond.specs.Trees.{holds};
     ghost use Rattle.unlang_cond.specs.Tokens.{tokens_of};
     ghost use Rattle.unlang_cond.specs.Steps.{AreFit};
-    ghost use Rattle.unlang_cond.specs.Conditions.{condition_of, IsFaultOf};
+    ghost use Rattle.unlang_cond.specs.Conditions.{condition_of, reading_of, IsFaultOf};
 
-    /// The condition of a text, or its first fault. One that is read has no pattern that is refused.
+    /// The condition of a text, or its first fault. One that is read has no pattern that is refused. Which of them it is is a
+    /// function of the text and the dictionary, unless memory runs out; a pattern of 10 MiB when compiled is want of memory.
     pub fn parse(alloc: Global, text: &[u8], dict: &Dict) -> Result<Cond, CondFault>
+        ensures whole { IfOk result (λ cond. reading_of text.now dict.now ≡ Ok cond) }
         ensures read { IfOk result (λ cond. condition_of text.now dict.now ≡ Some cond) }
         ensures patterns { OnOk result (AreFit (tokens_of text.now dict.now).0) }
         ensures fault { IfErr result (λ fault. IsFaultOf fault text.now dict.now) }

@@ -55,7 +55,7 @@ fn has_expansion(source: &[u8]) -> bool
     false
 }
 
-/// What `regex` makes of a pattern's text: the compiled pattern, or none where it refuses the text.
+/// What `regex` makes of a pattern's text: the compiled pattern, or none where the text writes none.
 fn built(
     alloc: Global,
     source: &str,
@@ -68,12 +68,13 @@ fn built(
         .build_bytes(alloc)
     {
         Ok(regex) => Ok(Some(CompiledPattern { regex })),
-        Err(Error::OutOfMemory) => Err(NoMemory),
-        Err(_) => Ok(None),
+        Err(Error::Syntax(_)) => Ok(None),
+        // A pattern that would take more than 10 MiB when compiled is want of memory, as is a failed allocation.
+        Err(_) => Err(NoMemory),
     }
 }
 
-/// The pattern, compiled; none where it contains `%{`, is no UTF-8, or is refused by `regex`.
+/// The pattern, compiled; none where it contains `%{`, is no UTF-8, or is none by its text.
 pub fn compiled(alloc: Global, pattern: &Pattern) -> Result<Option<CompiledPattern>, NoMemory>
     ensures { IfOk result (IsAnswerTo pattern.now) }
 {

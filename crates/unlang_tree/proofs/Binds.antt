@@ -46,6 +46,11 @@ pub all_both : {X : Type 0} (P : X → Type 0) (xs ys : List X) → AllByRecursi
 all_both P [] ys left right = right
 all_both P (x ∷ xs) ys left right = (left.0, all_both P xs ys left.1 right)
 
+-- and what holds of the elements of both holds of those of each
+pub all_apart : {X : Type 0} (P : X → Type 0) (xs ys : List X) → AllByRecursion P (xs ++ ys) → AllByRecursion P xs × AllByRecursion P ys
+all_apart P [] ys all = (tt, all)
+all_apart P (x ∷ xs) ys all = let rest = all_apart P xs ys all.1 in ((all.0, rest.0), rest.1)
+
 -- what follows of each element follows of all
 pub all_wider : {X : Type 0} (P Q : X → Type 0) → ((x : X) → P x → Q x) → (xs : List X) → AllByRecursion P xs → AllByRecursion Q xs
 all_wider P Q wider [] all = tt

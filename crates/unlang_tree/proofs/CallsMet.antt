@@ -1,8 +1,7 @@
 -- Each call that is read is of an instance that is there and has a method for its section.
-use Rattle.std.proofs.Common.{codes, ◌≡◌, ℕ, zero, suc, ◌-◌, Bool, true, false, not, ◌&&◌, ◌||◌, cond, if◌then◌else◌, List, [], ◌∷◌, ◌++◌, Option, Some, None, is_some, Result, Ok, Err, sym, ap, subst, ◌∙◌}
+use Rattle.std.proofs.Common.{codes, ◌≡◌, ℕ, zero, suc, ◌-◌, Bool, true, false, not, ◌&&◌, ◌||◌, cond, if◌then◌else◌, List, [], ◌∷◌, ◌++◌, Option, Some, None, is_some, map, Result, Ok, Err, sym, ap, subst, ◌∙◌}
 use Rattle.std.specs.List.{AllByRecursion, list_all}
 use Rattle.std.specs.Str.{str_eq_ignore_ascii_case}
-use Rattle.std.proofs.lemmas.Grind.{flat_map-append}
 use Rattle.rad_outside.specs.declared.files.Place.{Place}
 use Rattle.rad_conf.specs.declared.tree.Word.{Word}
 use Rattle.rad_conf.specs.declared.tree.Node.{Node}
@@ -16,8 +15,15 @@ use Rattle.unlang_tree.specs.declared.fault.TreeFault.{TreeFault}
 use Rattle.unlang_tree.specs.declared.fault.TreeFault.TheVariants as fault
 use Rattle.unlang_tree.specs.declared.statement.Call.{Call}
 use Rattle.unlang_tree.specs.declared.statement.Statement.{Statement}
-use Rattle.unlang_tree.specs.declared.statement.StatementKind.{StatementKind}
+use Rattle.unlang_tree.specs.declared.statement.StatementKind.{StatementKind, out-StatementKind, roll-StatementKind, roll-out-StatementKind}
 use Rattle.unlang_tree.specs.declared.statement.StatementKind.TheVariants as kinds
+use Rattle.unlang_tree.specs.declared.statement.StatementKind.TheVariants.{rolls-If}
+use Rattle.unlang_tree.specs.declared.statement.StatementKind.TheOpen.{StatementKind-F}
+use Rattle.unlang_tree.specs.declared.statement.StatementKind.TheOpen as opened
+use Rattle.unlang_tree.specs.declared.statement.Group.{Group}
+use Rattle.unlang_tree.specs.declared.statement.Arm.{Arm, out-Arm}
+use Rattle.unlang_tree.specs.declared.words.ArmWord.{ArmWord}
+use Rattle.unlang_cond.specs.Trees.{Tree}
 use Rattle.unlang_tree.specs.declared.statement.GroupForm.{GroupForm}
 use Rattle.unlang_tree.specs.declared.statement.GroupForm.TheVariants as form
 use Rattle.unlang_tree.specs.declared.statement.Override.{Override}
@@ -29,69 +35,25 @@ use Rattle.unlang_tree.specs.declared.policies.SectionTree.{SectionTree}
 use Rattle.unlang_tree.specs.declared.policies.ServerTree.{ServerTree}
 use Rattle.unlang_tree.specs.declared.subsections.Parts.{Parts}
 use Rattle.unlang_tree.specs.declared.servers.Known.{Known}
-use Rattle.unlang_tree.specs.Instances.{Instance, number_of}
+use Rattle.unlang_tree.specs.Instances.{number_of}
 use Rattle.unlang_tree.specs.Sites.{Site}
 use Rattle.unlang_tree.specs.Readings.{one_more, one_deeper, after_each, most_statements}
 use Rattle.unlang_tree.specs.Words.{is_one_of, is_return, later_words, later_blocks}
-use Rattle.unlang_tree.specs.Calls.{kind_of, body_of, can_be_called, call_of, called_name, is_unwritten, call_at, not_open}
+use Rattle.unlang_tree.specs.Calls.{kind_of, body_of, call_of, called_name, is_unwritten, call_at, not_open}
+use Rattle.unlang_tree.specs.Arms.{arm_of, condition_at, is_last_open, not_stray, is_later_arm, arms_of, gone_on, with_last, joined_by}
 use Rattle.unlang_tree.specs.Actions.{with_override, overrides_of}
 use Rattle.unlang_tree.specs.Updates.{update_at}
 use Rattle.unlang_tree.specs.Statements.{with_room, one_statement, counted_call, word_at, is_pair, with_actions, call_block_at, update_statement}
 use Rattle.unlang_tree.specs.PolicyCalls.{policy_called, braces_at}
 use Rattle.unlang_tree.specs.Depths.{Depth, at_the_top, in_a_block, in_a_policy}
-use Rattle.unlang_tree.specs.Groups.{Opener, plain_block, plain_statement, group_block, group_of, group_at, policy_call, block_or_plain, called_or_not, statement_by, and_also, with_own_action, has_own_actions, with_member, begun, opened_at, statement_at, with_statement, members_of}
+use Rattle.unlang_tree.specs.Groups.{Opener, plain_block, plain_statement, group_block, group_of, group_at, if_of, arm_at, policy_call, arm_or_plain, block_or_plain, called_or_not, statement_by, and_also, with_own_action, has_own_actions, with_member, begun, opened_at, statement_at, with_statement, members_of}
 use Rattle.unlang_tree.specs.Sections.{subsection_block, with_subsection, own_name, with_call, with_run, with_written, with_one, with_part, parts_of, section_block, with_section, with_item, server_of}
 use Rattle.unlang_tree.specs.Policies.{server_block, with_server, servers_of}
-use Rattle.unlang_tree.specs.EachCall.{calls_in_kind, calls_in, calls_of, EachCall, EachCallWithin, EachCallIn, EachCallOfSections, EachCallOf, IsMet}
-use Rattle.unlang_tree.proofs.CallsWithin.{calls_by_kind, calls_of_call, calls_of_return, calls_of_update, calls_of_made}
-use Rattle.unlang_tree.proofs.Binds.{ok_same, err_ok, bind_ok, past, passed, either, kept, all_both, all_wider}
-
-module _ (holds : Section → Call → Type 0) (section : Section) where
-  -- one statement more
-  pub each_added : (statements : List Statement) (one : Statement) → EachCall holds section statements → AllByRecursion (holds section) (calls_in one)
-      → EachCall holds section (statements ++ one ∷ [])
-  each_added statements one all more =
-      subst (AllByRecursion (holds section)) (sym (flat_map-append calls_in statements (one ∷ [])))
-      (all_both (holds section) (calls_of statements) (calls_in one ++ []) all (all_both (holds section) (calls_in one) [] more tt))
-
--- what holds of calls wherever another does
-pub each_wider : (holds wider : Section → Call → Type 0) → ((section : Section) (call : Call) → holds section call → wider section call)
-    → (section : Section) (statements : List Statement) → EachCall holds section statements → EachCall wider section statements
-each_wider holds wider h section statements all = all_wider (holds section) (wider section) (h section) (calls_of statements) all
-
-within_wider : (holds wider : Section → Call → Type 0) → ((section : Section) (call : Call) → holds section call → wider section call)
-    → (section : Section) (subs : List Subsection) → EachCallWithin holds section subs → EachCallWithin wider section subs
-within_wider holds wider h section subs all =
-    all_wider (λ (sub : Subsection). EachCall holds section sub.statements) (λ (sub : Subsection). EachCall wider section sub.statements)
-    (λ sub. each_wider holds wider h section sub.statements) subs all
-
-section_wider : (holds wider : Section → Call → Type 0) → ((section : Section) (call : Call) → holds section call → wider section call)
-    → (tree : SectionTree) → EachCallIn holds tree → EachCallIn wider tree
-section_wider holds wider h tree all =
-    (each_wider holds wider h tree.section tree.statements all.0, within_wider holds wider h tree.section tree.subsections all.1)
-
-pub servers_wider : (holds wider : Section → Call → Type 0) → ((section : Section) (call : Call) → holds section call → wider section call)
-    → (servers : List ServerTree) → EachCallOf holds servers → EachCallOf wider servers
-servers_wider holds wider h servers all =
-    all_wider (λ (server : ServerTree). EachCallOfSections holds server.sections) (λ (server : ServerTree). EachCallOfSections wider server.sections)
-    (λ server. all_wider (EachCallIn holds) (EachCallIn wider) (section_wider holds wider h) server.sections) servers all
-
--- the call of the instance of a number, where one was found
-abbrev numbered : List Instance → Section → Place → List ℕ → Option ℕ → Result Call TreeFault
-numbered instances section place name found = elim found [
-  | None ↦ Err (fault.UnknownModule place name)
-  | Some number ↦
-      if can_be_called instances section number then Ok (record { instance = number; overrides = [] })
-      else Err (fault.NoSuchMethod place)
-]
-
-numbered_met : (instances : List Instance) (section : Section) (place : Place) (name : List ℕ) (found : Option ℕ) (call : Call)
-    → numbered instances section place name found ≡ Ok call → IsMet instances section call
-numbered_met instances section place name None call e = err_ok call (fault.UnknownModule place name) e
-numbered_met instances section place name (Some number) call e =
-    let plain : Call = record { instance = number; overrides = [] } in
-    let both = passed (can_be_called instances section number) plain (fault.NoSuchMethod place) call e in
-    ap (λ (c : Call). can_be_called instances section c.instance) (sym both.1) ∙ both.0
+use Rattle.unlang_tree.specs.EachCall.{joined, calls_in_kind, calls_in, calls_of, EachCall, EachCallWithin, EachCallIn, EachCallOfSections, EachCallOf, IsMet}
+use Rattle.unlang_tree.proofs.CallsWithin.{calls_by_kind, calls_of_call, calls_of_return, calls_of_update, calls_of_made, calls_of_if, calls_of_one_arm}
+use Rattle.unlang_tree.proofs.EachWider.{each_added}
+use Rattle.unlang_tree.proofs.CallLemmas.{numbered_met}
+use Rattle.unlang_tree.proofs.Binds.{ok_same, err_ok, bind_ok, past, either, kept, all_both, all_apart}
 
 module _ (site : Site) where
   call_met : (section : Section) (place : Place) (name : List ℕ) (call : Call) → call_of site.instances section place name ≡ Ok call → IsMet site.instances section call
@@ -276,9 +238,31 @@ module _ (site : Site) where
       let one = bind_ok read (λ (one : Counted). Ok (Some one)) statement e in
       subst (AreMetIf section) (ok_same (Some one.0) statement one.1.1) (met one.0 one.1.0)
 
+  arm_met : (section : Section) (opener : Opener) (depth : Depth) (room : ℕ) (word : ArmWord) (node : Node) (one : Counted) → OpenerMet section opener
+      → arm_at opener site depth room word node ≡ Ok one → AreMetIf section (Some one)
+  unfolding arm_at
+  arm_met section opener depth room word node one met e =
+      let last : Option Tree → Members → Result Counted TreeFault = λ condition members. Ok (with_room members.room node.place (if_of condition members.statements)) in
+      let read = opener (in_a_block depth) node.place form.Policy [] (room - 1) (body_of node) in
+      let asked = bind_ok (condition_at site.dict word node) (λ condition. one_deeper depth.levels node.place >>= λ deeper. one_more room node.place >>= λ done. read >>= last condition) one e in
+      let deeper = bind_ok (one_deeper depth.levels node.place) (λ deeper. one_more room node.place >>= λ done. read >>= last asked.0) one asked.1.1 in
+      let counted = bind_ok (one_more room node.place) (λ done. read >>= last asked.0) one deeper.1.1 in
+      let members = bind_ok read (last asked.0) one counted.1.1 in
+      subst (λ (c : Counted). AreMetIf section (Some c)) (ok_same (with_room members.0.room node.place (if_of asked.0 members.0.statements)) one members.1.1)
+      (kind_met section members.0.room node.place (if_of asked.0 members.0.statements)
+      (subst (AllByRecursion (IsMet site.instances section)) (sym (calls_of_one_arm asked.0 members.0.statements))
+      (all_both (IsMet site.instances section) (calls_of members.0.statements) [] (met (in_a_block depth) node.place form.Policy [] (room - 1) (body_of node) members.0 members.1.0) tt)))
+
+  arm_or_plain_met : (section : Section) (opener : Opener) (depth : Depth) (room : ℕ) (node : Node) (word : Option ArmWord) (statement : Option Counted) → OpenerMet section opener
+      → arm_or_plain opener site section depth room node word ≡ Ok statement → AreMetIf section statement
+  arm_or_plain_met section opener depth room node None statement met e = plain_met section depth.levels room node statement e
+  arm_or_plain_met section opener depth room node (Some word) statement met e =
+      some_one_met section (arm_at opener site depth room word node) statement
+      (λ one read. arm_met section opener depth room word node one met read) e
+
   block_or_plain_met : (section : Section) (opener : Opener) (depth : Depth) (room : ℕ) (node : Node) (block : Option (GroupForm × List Node)) (statement : Option Counted) → OpenerMet section opener
       → block_or_plain opener site section depth room node block ≡ Ok statement → AreMetIf section statement
-  block_or_plain_met section opener depth room node None statement met e = plain_met section depth.levels room node statement e
+  block_or_plain_met section opener depth room node None statement met e = arm_or_plain_met section opener depth room node (arm_of node) statement met e
   block_or_plain_met section opener depth room node (Some block) statement met e =
       some_one_met section (group_at opener depth room node.place block.0 block.1) statement
       (λ one read. group_met section opener depth room node.place block.0 block.1 one met read) e
@@ -295,9 +279,64 @@ module _ (site : Site) where
   within_met section opener depth room node statement met e =
       called_or_not_met section opener depth room node (policy_called site.root section node) statement met e
 
-  also_met : (section : Section) (members : Members) (one : Option Counted) → MembersMet section members → AreMetIf section one → MembersMet section (and_also members one)
-  also_met section members None all more = all
-  also_met section members (Some one) all more = each_added (IsMet site.instances) section members.statements one.statement all more
+  -- the calls of arms
+  abbrev calls_in_arms : List Arm → List Call
+  calls_in_arms arms = joined (map (λ (arm : Arm). calls_of (out-Arm arm).statements) arms)
+
+  abbrev Met : Section → List Call → Type 0
+  Met section calls = AllByRecursion (IsMet site.instances section) calls
+
+  arms_both : (section : Section) (arms more : List Arm) → Met section (calls_in_arms arms) → Met section (calls_in_arms more) → Met section (calls_in_arms (arms ++ more))
+  arms_both section [] more left right = right
+  arms_both section (arm ∷ arms) more left right =
+      let parts = all_apart (IsMet site.instances section) (calls_of (out-Arm arm).statements) (calls_in_arms arms) left in
+      all_both (IsMet site.instances section) (calls_of (out-Arm arm).statements) (calls_in_arms (arms ++ more)) parts.0 (arms_both section arms more parts.1 right)
+
+  abbrev arms_in : StatementKind-F StatementKind Arm Group Statement → List Arm
+  arms_in layer = elim layer [
+    | opened.Call call ↦ []
+    | opened.Group group ↦ []
+    | opened.Return ↦ []
+    | opened.Update lines ↦ []
+    | opened.If arms ↦ arms
+  ]
+
+  layer_met : (section : Section) (layer : StatementKind-F StatementKind Arm Group Statement) → KindMet section (roll-StatementKind layer) → Met section (calls_in_arms (arms_in layer))
+  layer_met section (opened.Call call) met = tt
+  layer_met section (opened.Group group) met = tt
+  layer_met section opened.Return met = tt
+  layer_met section (opened.Update lines) met = tt
+  layer_met section (opened.If arms) met = subst (Met section) (ap calls_in_kind (rolls-If arms) ∙ calls_of_if arms) met
+
+  arms_met : (section : Section) (kind : StatementKind) → KindMet section kind → Met section (calls_in_arms (arms_of kind))
+  arms_met section kind met = layer_met section (out-StatementKind kind) (subst (KindMet section) (sym (roll-out-StatementKind kind)) met)
+
+  of_kind : (section : Section) (one : Statement) → Met section (calls_in one) → KindMet section one.kind
+  of_kind section one met = subst (Met section) (calls_by_kind one) met
+
+  gone_on_met : (section : Section) (one more : Statement) → Met section (calls_in one) → Met section (calls_in more) → Met section (calls_in (gone_on one more))
+  gone_on_met section one more left right =
+      subst (Met section) (sym (calls_by_kind (gone_on one more)))
+      (subst (Met section) (sym (calls_of_if (arms_of one.kind ++ arms_of more.kind)))
+      (arms_both section (arms_of one.kind) (arms_of more.kind) (arms_met section one.kind (of_kind section one left)) (arms_met section more.kind (of_kind section more right))))
+
+  last_met : (section : Section) (statements : List Statement) (more : Statement) → AreMet section statements → Met section (calls_in more) → AreMet section (with_last statements more)
+  last_met section [] more all right = tt
+  last_met section (one ∷ []) more all right =
+      let parts = all_apart (IsMet site.instances section) (calls_in one) [] all in
+      all_both (IsMet site.instances section) (calls_in (gone_on one more)) [] (gone_on_met section one more parts.0 right) tt
+  last_met section (one ∷ next ∷ others) more all right =
+      let parts = all_apart (IsMet site.instances section) (calls_in one) (calls_of (next ∷ others)) all in
+      all_both (IsMet site.instances section) (calls_in one) (calls_of (with_last (next ∷ others) more)) parts.0 (last_met section (next ∷ others) more parts.1 right)
+
+  joined_met : (section : Section) (later : Bool) (statements : List Statement) (one : Statement) → AreMet section statements → Met section (calls_in one)
+      → AreMet section (joined_by later statements one)
+  joined_met section false statements one all more = each_added (IsMet site.instances) section statements one all more
+  joined_met section true statements one all more = last_met section statements one all more
+
+  also_met : (section : Section) (members : Members) (node : Node) (one : Option Counted) → MembersMet section members → AreMetIf section one → MembersMet section (and_also members node one)
+  also_met section members node None all more = all
+  also_met section members node (Some one) all more = joined_met section (is_later_arm node) members.statements one.statement all more
 
   own_action_met : (section : Section) (known next : Members) (node : Node) → MembersMet section known → with_own_action known node ≡ Ok next → MembersMet section next
   unfolding with_own_action
@@ -310,12 +349,14 @@ module _ (site : Site) where
   unfolding with_member
   member_met section opener depth kind met known next node all e =
       let read : Result (Option Counted) TreeFault = statement_by opener site section depth known.room node in
-      either (has_own_actions kind && is_pair node) (with_own_action known node) (read >>= λ one. Ok (and_also known one)) next
+      let stated : Result Members TreeFault = read >>= λ one. Ok (and_also known node one) in
+      either (has_own_actions kind && is_pair node) (with_own_action known node) (not_stray (is_last_open known.statements) node >>= λ placed. stated) next
       (own_action_met section known next node all)
       (λ rest.
-      let one = bind_ok read (λ one. Ok (and_also known one)) next rest in
-      subst (MembersMet section) (ok_same (and_also known one.0) next one.1.1)
-      (also_met section known one.0 all (within_met section opener depth known.room node one.0 met one.1.0)))
+      let placed = bind_ok (not_stray (is_last_open known.statements) node) (λ placed. stated) next rest in
+      let one = bind_ok read (λ one. Ok (and_also known node one)) next placed.1.1 in
+      subst (MembersMet section) (ok_same (and_also known node one.0) next one.1.1)
+      (also_met section known node one.0 all (within_met section opener depth known.room node one.0 met one.1.0)))
       e
 
   opened_met : (section : Section) (within : ℕ) → OpenerMet section (opened_at site section within)
@@ -332,8 +373,10 @@ module _ (site : Site) where
   step_met : (section : Section) (known next : Members) (node : Node) → MembersMet section known → with_statement site section known node ≡ Ok next → MembersMet section next
   unfolding with_statement
   step_met section known next node all e =
-      let one = bind_ok (statement_at site section known.room node) (λ statement. Ok (and_also known statement)) next e in
-      subst (MembersMet section) (ok_same (and_also known one.0) next one.1.1) (also_met section known one.0 all (statement_met section known.room node one.0 one.1.0))
+      let stated : Result Members TreeFault = statement_at site section known.room node >>= λ statement. Ok (and_also known node statement) in
+      let placed = bind_ok (not_stray (is_last_open known.statements) node) (λ placed. stated) next e in
+      let one = bind_ok (statement_at site section known.room node) (λ statement. Ok (and_also known node statement)) next placed.1.1 in
+      subst (MembersMet section) (ok_same (and_also known node one.0) next one.1.1) (also_met section known node one.0 all (statement_met section known.room node one.0 one.1.0))
 
   members_met : (section : Section) (room : ℕ) (nodes : List Node) (members : Members) → members_of site section room nodes ≡ Ok members → MembersMet section members
   members_met section room nodes members e =
@@ -349,8 +392,8 @@ module _ (site : Site) where
   subsection_met : (section : Section) (known next : Parts) (name : List ℕ) (body : List Node) → PartsMet section known → with_subsection site section known name body ≡ Ok next → PartsMet section next
   unfolding with_subsection
   subsection_met section known next name body all e =
-      let one = bind_ok (members_of site section known.room body) (λ (members : Members). Ok (record { statements = known.statements; subsections = known.subsections ++ record { name = name; statements = members.statements } ∷ []; room = members.room })) next e in
-      subst (PartsMet section) (ok_same (record { statements = known.statements; subsections = known.subsections ++ record { name = name; statements = one.0.statements } ∷ []; room = one.0.room }) next one.1.1)
+      let one = bind_ok (members_of site section known.room body) (λ (members : Members). Ok (record { statements = known.statements; subsections = known.subsections ++ record { name = name; statements = members.statements } ∷ []; room = members.room; may_go_on = false })) next e in
+      subst (PartsMet section) (ok_same (record { statements = known.statements; subsections = known.subsections ++ record { name = name; statements = one.0.statements } ∷ []; room = one.0.room; may_go_on = false }) next one.1.1)
       (all.0, sub_added section known.subsections (record { name = name; statements = one.0.statements }) all.1 (members_met section known.room body one.0 one.1.0))
 
   own_met : (section : Section) (name : Option (List ℕ)) (statement : Statement) (subs : List Subsection) → EachCallWithin (IsMet site.instances) section subs
@@ -359,17 +402,17 @@ module _ (site : Site) where
   own_met section (Some name) statement subs all more =
       sub_added section subs (record { name = name; statements = statement ∷ [] }) all (each_added (IsMet site.instances) section [] statement tt more)
 
-  run_met : (section : Section) (known : Parts) (one : Counted) → PartsMet section known → AreMetIf section (Some one) → PartsMet section (with_run known one)
-  run_met section known one all more = (each_added (IsMet site.instances) section known.statements one.statement all.0 more, all.1)
+  run_met : (section : Section) (node : Node) (known : Parts) (one : Counted) → PartsMet section known → AreMetIf section (Some one) → PartsMet section (with_run node known one)
+  run_met section node known one all more = (joined_met section (is_later_arm node) known.statements one.statement all.0 more, all.1)
 
   written_met : (section : Section) (node : Node) (known : Parts) (one : Counted) → PartsMet section known → AreMetIf section (Some one)
       → PartsMet section (with_written section node known one)
-  written_met which.Authorize node known one all more = run_met which.Authorize known one all more
+  written_met which.Authorize node known one all more = run_met which.Authorize node known one all more
   written_met which.Authenticate node known one all more = (all.0, own_met which.Authenticate (own_name node one.statement.kind) one.statement known.subsections all.1 more)
-  written_met which.Session node known one all more = run_met which.Session known one all more
-  written_met which.Preacct node known one all more = run_met which.Preacct known one all more
-  written_met which.Accounting node known one all more = run_met which.Accounting known one all more
-  written_met which.PostAuth node known one all more = run_met which.PostAuth known one all more
+  written_met which.Session node known one all more = run_met which.Session node known one all more
+  written_met which.Preacct node known one all more = run_met which.Preacct node known one all more
+  written_met which.Accounting node known one all more = run_met which.Accounting node known one all more
+  written_met which.PostAuth node known one all more = run_met which.PostAuth node known one all more
 
   one_met : (section : Section) (node : Node) (known : Parts) (one : Option Counted) → PartsMet section known → AreMetIf section one → PartsMet section (with_one section node known one)
   one_met section node known None all more = all
@@ -378,13 +421,14 @@ module _ (site : Site) where
   abbrev part_by : Section → Parts → Node → Option (List ℕ × List Node) → Result Parts TreeFault
   part_by section known node block = elim block [
     | Some block ↦ with_subsection site section known block.0 block.1
-    | None ↦ statement_at site section known.room node >>= λ statement. Ok (with_one section node known statement)
+    | None ↦ not_stray known.may_go_on node >>= λ placed. statement_at site section known.room node >>= λ statement. Ok (with_one section node known statement)
   ]
 
   part_by_met : (section : Section) (known next : Parts) (node : Node) (block : Option (List ℕ × List Node)) → PartsMet section known → part_by section known node block ≡ Ok next → PartsMet section next
   part_by_met section known next node (Some block) all e = subsection_met section known next block.0 block.1 all e
   part_by_met section known next node None all e =
-      let one = bind_ok (statement_at site section known.room node) (λ statement. Ok (with_one section node known statement)) next e in
+      let placed = bind_ok (not_stray known.may_go_on node) (λ placed. statement_at site section known.room node >>= λ statement. Ok (with_one section node known statement)) next e in
+      let one = bind_ok (statement_at site section known.room node) (λ statement. Ok (with_one section node known statement)) next placed.1.1 in
       subst (PartsMet section) (ok_same (with_one section node known one.0) next one.1.1) (one_met section node known one.0 all (statement_met section known.room node one.0 one.1.0))
 
   part_met : (section : Section) (known next : Parts) (node : Node) → PartsMet section known → with_part site section known node ≡ Ok next → PartsMet section next
@@ -401,7 +445,7 @@ module _ (site : Site) where
   unfolding with_section
   section_met known next section body all e =
       let one = bind_ok (parts_of site section known.room body) (λ (parts : Parts). Ok (record { sections = known.sections ++ section_tree section parts ∷ []; room = parts.room })) next e in
-      let met = kept (with_part site section) (PartsMet section) (part_met section) (record { statements = []; subsections = []; room = known.room }) one.0 body (tt, tt) one.1.0 in
+      let met = kept (with_part site section) (PartsMet section) (part_met section) (record { statements = []; subsections = []; room = known.room; may_go_on = false }) one.0 body (tt, tt) one.1.0 in
       subst SectionsMet (ok_same (record { sections = known.sections ++ section_tree section one.0 ∷ []; room = one.0.room }) next one.1.1)
       (all_both (EachCallIn (IsMet site.instances)) known.sections (section_tree section one.0 ∷ []) all ((met.0, met.1), tt))
 

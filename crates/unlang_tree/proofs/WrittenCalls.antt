@@ -20,7 +20,7 @@ use Rattle.unlang_tree.specs.Sites.{Site}
 use Rattle.unlang_tree.specs.Statements.{one_statement, counted_call, word_at}
 use Rattle.unlang_tree.specs.PolicyCalls.{policy_called}
 use Rattle.unlang_tree.specs.Depths.{Depth, at_the_top}
-use Rattle.unlang_tree.specs.Groups.{Opener, plain_block, plain_statement, group_block, block_or_plain, called_or_not, statement_by, opened_at, statement_at, and_also, with_statement, statements_of}
+use Rattle.unlang_tree.specs.Groups.{Opener, plain_block, plain_statement, group_block, arm_or_plain, block_or_plain, called_or_not, statement_by, opened_at, statement_at, with_statement, statements_of}
 use Rattle.unlang_tree.specs.declared.statements.Counted.{Counted}
 use Rattle.unlang_tree.specs.declared.groups.Members.{Members}
 use Rattle.rad_words.specs.declared.sections.Section.TheVariants as which
@@ -30,6 +30,8 @@ use Rattle.unlang_tree.specs.declared.servers.Known.{Known}
 use Rattle.unlang_tree.specs.Sections.{subsection_block, with_one, with_part, section_block, with_section, with_item, server_of}
 use Rattle.unlang_tree.specs.Policies.{server_block, with_server, servers_of}
 use Rattle.unlang_tree.specs.Written.{IsWord, IsBlock, IsFree, IsCallable, call_from, Spell, nothing, by_name, by_dash, passed_over, IsUnknown}
+use Rattle.unlang_tree.specs.Arms.{is_last_open}
+use Rattle.unlang_tree.proofs.ArmLemmas.{word_no_arm, word_not_later, not_later_stands, plain_also, also_plain, call_closed}
 
 neither : (a b : Bool) → (a || b) ≡ false → (a ≡ false) × (b ≡ false)
 neither true b e = absurd cc
@@ -56,6 +58,7 @@ module _ (site : Site) (section : Section) where
   word_by opener depth room node word e free =
       ap (called_or_not opener site section depth room node) free
       ∙ ap (block_or_plain opener site section depth room node) (no_group node word e)
+      ∙ ap (arm_or_plain opener site section depth room node) (word_no_arm node word e)
       ∙ plain_word depth.levels room node word e
 
   -- a word that is free calls none
@@ -181,30 +184,33 @@ module _ (site : Site) (section : Section) where
   so_far statements room = record { overrides = []; statements = statements; room = room }
 
   -- one node more among the statements that are known
-  step_ok : (room : ℕ) (known : List Statement) (node : Node) (more : Option Counted) (rest : List Node)
+  step_ok : (room : ℕ) (known : List Statement) (node : Node) (word : List ℕ) (more : Option Counted) (rest : List Node) → IsWord node word
       → statement_at site section room node ≡ Ok more
-      → after_each (with_statement site section) (so_far known room) (node ∷ rest) ≡ after_each (with_statement site section) (and_also (so_far known room) more) rest
+      → after_each (with_statement site section) (so_far known room) (node ∷ rest) ≡ after_each (with_statement site section) (plain_also (so_far known room) more) rest
   unfolding after_each with_statement
-  step_ok room known node more rest e = rw e refl
+  step_ok room known node word more rest spelled e =
+      rw (not_later_stands (is_last_open known) node (word_not_later node word spelled), e)
+      (ap (λ m. after_each (with_statement site section) m rest) (also_plain (so_far known room) node more (word_not_later node word spelled)))
 
-  step_wrong : (room : ℕ) (known : List Statement) (node : Node) (wrong : TreeFault) (rest : List Node)
+  step_wrong : (room : ℕ) (known : List Statement) (node : Node) (word : List ℕ) (wrong : TreeFault) (rest : List Node) → IsWord node word
       → statement_at site section room node ≡ Err wrong
       → after_each (with_statement site section) (so_far known room) (node ∷ rest) ≡ Err wrong
   unfolding after_each with_statement
-  step_wrong room known node wrong rest e = rw e refl
+  step_wrong room known node word wrong rest spelled e =
+      rw (not_later_stands (is_last_open known) node (word_not_later node word spelled), e) refl
 
   abbrev from_here : List Statement → ℕ → List Node → Result Members TreeFault
   from_here known room nodes = after_each (with_statement site section) (so_far known room) nodes
 
-  one_call_read : (room : ℕ) (known : List Statement) (node : Node) (number : ℕ) (calls : List Statement) (nodes rest : List Node)
+  one_call_read : (room : ℕ) (known : List Statement) (node : Node) (word : List ℕ) (number : ℕ) (calls : List Statement) (nodes rest : List Node) → IsWord node word
       → statement_at site section room node ≡ Ok (Some (next_from node number room)) → length (call_from node number ∷ calls) ≤ room
       → from_here (known ++ call_from node number ∷ []) (room - 1) (nodes ++ rest) ≡ from_here ((known ++ call_from node number ∷ []) ++ calls) (room - 1 - length calls) rest
       → from_here known room (node ∷ (nodes ++ rest)) ≡ from_here (known ++ call_from node number ∷ calls) (room - length (call_from node number ∷ calls)) rest
-  one_call_read room known node number calls nodes rest e within further =
+  one_call_read room known node word number calls nodes rest spelled e within further =
       let s = call_from node number in
       let same : (known ++ s ∷ []) ++ calls ≡ known ++ s ∷ calls = simp append_assoc in
       let left : room - 1 - length calls ≡ room - length (s ∷ calls) = omega (arith, within) in
-      step_ok room known node (Some (next_from node number room)) (nodes ++ rest) e
+      step_ok room known node word (Some (next_from node number room)) (nodes ++ rest) spelled e
       ∙ further
       ∙ ap (λ k. from_here k (room - 1 - length calls) rest) same ∙ ap (λ r. from_here (known ++ s ∷ calls) r rest) left
 
@@ -216,13 +222,13 @@ module _ (site : Site) (section : Section) where
       let left : room ≡ room - 0 = omega arith in
       ap (λ k. from_here k room rest) (sym (append-nil known)) ∙ ap (λ r. from_here (known ++ []) r rest) left
   spelled_read room known _ _ rest (by_name node nodes calls name number spelled plain free callable more) within =
-      one_call_read room known node number calls nodes rest (statement_of_name room node name number spelled plain free callable (omega (arith, within))) within
+      one_call_read room known node name number calls nodes rest spelled (statement_of_name room node name number spelled plain free callable (omega (arith, within))) within
       (spelled_read (room - 1) (known ++ call_from node number ∷ []) nodes calls rest more (omega (arith, within)))
   spelled_read room known _ _ rest (by_dash node nodes calls name number spelled free callable more) within =
-      one_call_read room known node number calls nodes rest (statement_of_optional room node name number spelled free callable (omega (arith, within))) within
+      one_call_read room known node (45 ∷ name) number calls nodes rest spelled (statement_of_optional room node name number spelled free callable (omega (arith, within))) within
       (spelled_read (room - 1) (known ++ call_from node number ∷ []) nodes calls rest more (omega (arith, within)))
   spelled_read room known _ _ rest (passed_over node nodes calls name spelled free none more) within =
-      step_ok room known node None (nodes ++ rest) (statement_of_absent room node name spelled free none)
+      step_ok room known node (45 ∷ name) None (nodes ++ rest) spelled (statement_of_absent room node name spelled free none)
       ∙ spelled_read room known nodes calls rest more within
 
   nothing_left : (known : Members) → after_each (with_statement site section) known [] ≡ Ok known
@@ -241,7 +247,7 @@ module _ (site : Site) (section : Section) where
   unknown_found room good calls bad name rest spelled within unknown =
       ap (λ r. r >>= λ (members : Members). Ok members.statements)
       (spelled_read room [] good calls (bad ∷ rest) spelled within
-      ∙ step_wrong (room - length calls) calls bad (fault.UnknownModule bad.place name) rest (statement_of_unknown (room - length calls) bad name unknown))
+      ∙ step_wrong (room - length calls) calls bad name (fault.UnknownModule bad.place name) rest unknown.spelled (statement_of_unknown (room - length calls) bad name unknown))
 
 module _ (site : Site) where
   section_read : (node : Node) (nodes : List Node) → IsBlock node (codes "authorize") None nodes → section_block node ≡ Some (which.Authorize, nodes)
@@ -256,12 +262,12 @@ module _ (site : Site) where
   no_subsection node word e = rw (e, subsection_block) refl
 
   abbrev parts : List Statement → ℕ → Parts
-  parts statements room = record { statements = statements; subsections = []; room = room }
+  parts statements room = record { statements = statements; subsections = []; room = room; may_go_on = false }
 
   part_ok : (known : Parts) (node : Node) (word : List ℕ) (more : Option Counted) → IsWord node word → statement_at site which.Authorize known.room node ≡ Ok more
       → with_part site which.Authorize known node ≡ Ok (with_one which.Authorize node known more)
   unfolding with_part
-  part_ok known node word more spelled e = rw (no_subsection node word spelled, with_part) (rw e refl)
+  part_ok known node word more spelled e = rw (no_subsection node word spelled, with_part) (rw (not_later_stands known.may_go_on node (word_not_later node word spelled), e) refl)
 
   abbrev parts_from : List Statement → ℕ → List Node → Result Parts TreeFault
   parts_from statements room nodes = after_each (with_part site which.Authorize) (parts statements room) nodes
@@ -281,6 +287,10 @@ module _ (site : Site) where
   abbrev counted_from : Node → ℕ → ℕ → Counted
   counted_from node number room = record { statement = call_from node number; room = room - 1 }
 
+  run_plain : (room : ℕ) (known : List Statement) (node : Node) (word : List ℕ) (number : ℕ) → IsWord node word
+      → with_one which.Authorize node (parts known room) (Some (counted_from node number room)) ≡ parts (known ++ call_from node number ∷ []) (room - 1)
+  run_plain room known node word number spelled = rw (word_not_later node word spelled, call_closed node number) refl
+
   one_call : (room : ℕ) (known : List Statement) (node : Node) (nodes : List Node) (word : List ℕ) (number : ℕ) (calls : List Statement) → IsWord node word
       → statement_at site which.Authorize room node ≡ Ok (Some (counted_from node number room)) → length (call_from node number ∷ calls) ≤ room
       → parts_from (known ++ call_from node number ∷ []) (room - 1) nodes ≡ read_as ((known ++ call_from node number ∷ []) ++ calls) (room - 1 - length calls)
@@ -289,7 +299,7 @@ module _ (site : Site) where
       let s = call_from node number in
       let same : (known ++ s ∷ []) ++ calls ≡ known ++ s ∷ calls = simp append_assoc in
       let left : room - 1 - length calls ≡ room - length (s ∷ calls) = omega (arith, within) in
-      part_step (parts known room) (parts (known ++ s ∷ []) (room - 1)) node nodes (part_ok (parts known room) node word (Some (counted_from node number room)) spelled e)
+      part_step (parts known room) (parts (known ++ s ∷ []) (room - 1)) node nodes (part_ok (parts known room) node word (Some (counted_from node number room)) spelled e ∙ ap (λ p. Ok p) (run_plain room known node word number spelled))
       ∙ rest ∙ ap (λ k. read_as k (room - 1 - length calls)) same ∙ ap (λ r. read_as (known ++ s ∷ calls) r) left
 
   parts_read : (room : ℕ) (known : List Statement) (nodes : List Node) (calls : List Statement) → Spell site which.Authorize nodes calls → length calls ≤ room

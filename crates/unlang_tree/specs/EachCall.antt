@@ -5,7 +5,7 @@ use Rattle.rad_words.specs.declared.sections.Section.{Section}
 use Rattle.unlang_tree.specs.declared.statement.Call.{Call}
 use Rattle.unlang_tree.specs.declared.statement.Statement.{Statement}
 use Rattle.unlang_tree.specs.declared.statement.StatementKind.{StatementKind}
-use Rattle.unlang_tree.specs.declared.statement.StatementKind.TheOpen.{StatementKind-F, Group-F, Statement-F}
+use Rattle.unlang_tree.specs.declared.statement.StatementKind.TheOpen.{StatementKind-F, Group-F, Arm-F, Statement-F}
 use Rattle.unlang_tree.specs.declared.statement.StatementKind.TheOpen as level
 use Rattle.unlang_tree.specs.declared.statement.StatementKind.TheFolds.{fold-StatementKind, fold-Statement}
 use Rattle.unlang_tree.specs.declared.policies.Subsection.{Subsection}
@@ -20,25 +20,29 @@ joined [] = []
 joined (calls ∷ more) = calls ++ joined more
 
 -- The calls of a statement, those of the statements in it already known.
-abbrev pub kind_step : StatementKind-F (List Call) (List Call) (List Call) → List Call
+abbrev pub kind_step : StatementKind-F (List Call) (List Call) (List Call) (List Call) → List Call
 kind_step (level.Call call) = call ∷ []
 kind_step (level.Group group) = group
 kind_step level.Return = []
 kind_step (level.Update lines) = []
+kind_step (level.If arms) = joined arms
 
-abbrev pub group_step : Group-F (List Call) (List Call) (List Call) → List Call
+abbrev pub group_step : Group-F (List Call) (List Call) (List Call) (List Call) → List Call
 group_step group = joined group.statements
 
-abbrev pub statement_step : Statement-F (List Call) (List Call) (List Call) → List Call
+abbrev pub arm_step : Arm-F (List Call) (List Call) (List Call) (List Call) → List Call
+arm_step arm = joined arm.statements
+
+abbrev pub statement_step : Statement-F (List Call) (List Call) (List Call) (List Call) → List Call
 statement_step statement = statement.kind
 
 -- The calls of a statement, those of the blocks in it too, in order.
 abbrev pub calls_in_kind : StatementKind → List Call
-calls_in_kind = fold-StatementKind (List Call) (List Call) (List Call) kind_step group_step statement_step
+calls_in_kind = fold-StatementKind (List Call) (List Call) (List Call) (List Call) kind_step arm_step group_step statement_step
 
 -- The calls of a statement with its place, in order.
 abbrev pub calls_in : Statement → List Call
-calls_in = fold-Statement (List Call) (List Call) (List Call) kind_step group_step statement_step
+calls_in = fold-Statement (List Call) (List Call) (List Call) (List Call) kind_step arm_step group_step statement_step
 
 -- The calls of statements, in order.
 abbrev pub calls_of : List Statement → List Call

@@ -1,7 +1,7 @@
 -- The statements of a section, with blocks and policies within one another: `group`, `redundant`, `load-balance`,
--- `redundant-load-balance`, and the calls of policies. After the manual page unlang(5). What stands within a statement is read
+-- `redundant-load-balance`, `if` with its `elsif` and `else`, and the calls of policies. After the manual page unlang(5). What stands within a statement is read
 -- by a reader that is handed in.
-use Rattle.std.specs.Prelude.{ℕ, zero, suc, Bool, true, false, ◌&&◌, ◌-◌, List, [], ◌∷◌, ◌++◌, Option, option_map, Some, None, Result, Ok, Err, codes, if◌then◌else◌}
+use Rattle.std.specs.Prelude.{ℕ, zero, suc, Bool, true, false, ◌&&◌, ◌-◌, List, [], ◌∷◌, Option, option_map, Some, None, Result, Ok, Err, codes, if◌then◌else◌}
 use Rattle.std.specs.Str.{str_eq_ignore_ascii_case}
 use Rattle.rad_outside.specs.declared.files.Place.{Place}
 use Rattle.rad_conf.specs.declared.tree.Word.{Word}
@@ -12,6 +12,8 @@ use Rattle.rad_words.specs.declared.sections.Section.{Section}
 use Rattle.rad_text.specs.Read.{◌>>=◌}
 use Rattle.unlang_tree.specs.declared.fault.TreeFault.{TreeFault}
 use Rattle.unlang_tree.specs.declared.fault.TreeFault.TheVariants as fault
+use Rattle.unlang_cond.specs.Trees.{Tree}
+use Rattle.unlang_tree.specs.declared.statement.Arm.{roll-Arm}
 use Rattle.unlang_tree.specs.declared.statement.Group.{roll-Group}
 use Rattle.unlang_tree.specs.declared.statement.GroupForm.{GroupForm}
 use Rattle.unlang_tree.specs.declared.statement.GroupForm.TheVariants as form
@@ -21,10 +23,12 @@ use Rattle.unlang_tree.specs.declared.statement.StatementKind.{StatementKind}
 use Rattle.unlang_tree.specs.declared.statement.StatementKind.TheVariants as kinds
 use Rattle.unlang_tree.specs.declared.statements.Counted.{Counted}
 use Rattle.unlang_tree.specs.declared.groups.Members.{Members}
+use Rattle.unlang_tree.specs.declared.words.ArmWord.{ArmWord}
 use Rattle.unlang_tree.specs.Sites.{Site}
 use Rattle.unlang_tree.specs.Readings.{one_more, one_deeper, most_statements, after_each}
 use Rattle.unlang_tree.specs.Words.{is_one_of, form_named, later_blocks}
 use Rattle.unlang_tree.specs.Calls.{kind_of, body_of, not_open}
+use Rattle.unlang_tree.specs.Arms.{arm_of, condition_at, is_last_open, not_stray, with_next}
 use Rattle.unlang_tree.specs.Actions.{with_override, overrides_of}
 use Rattle.unlang_tree.specs.Statements.{with_room, word_at, is_pair, call_block_at, update_statement}
 use Rattle.unlang_tree.specs.PolicyCalls.{policy_called, braces_at}
@@ -81,9 +85,27 @@ policy_call opener depth room node policy = do
   members ← opener (in_a_policy depth (kind_of policy)) node.place form.Policy overrides (room - 1) (body_of policy)
   Ok (with_room members.room node.place (group_of form.Policy members))
 
--- A statement that opens no policy: a block of statements, or one that opens nothing.
+-- The `if` of one arm that was read: what it asks, and what stands in it.
+abbrev pub if_of : Option Tree → List Statement → StatementKind
+if_of condition statements = kinds.If (roll-Arm (record { condition = condition; statements = statements }) ∷ [])
+
+-- An arm, as an `if` of its own: it is one statement, and its own statements count too. As in a policy, no pair may stand in it.
+unfoldable pub arm_at : Opener → Site → Depth → ℕ → ArmWord → Node → Result Counted TreeFault
+arm_at opener site depth room word node = do
+  condition ← condition_at site.dict word node
+  deeper ← one_deeper depth.levels node.place
+  done ← one_more room node.place
+  members ← opener (in_a_block depth) node.place form.Policy [] (room - 1) (body_of node)
+  Ok (with_room members.room node.place (if_of condition members.statements))
+
+-- A statement that opens no block of statements: an arm, or one that opens nothing.
+abbrev pub arm_or_plain : Opener → Site → Section → Depth → ℕ → Node → Option ArmWord → Result (Option Counted) TreeFault
+arm_or_plain opener site where_it_stands depth room node None = plain_statement site where_it_stands depth.levels room node
+arm_or_plain opener site where_it_stands depth room node (Some word) = arm_at opener site depth room word node >>= λ one. Ok (Some one)
+
+-- A statement that opens no policy: a block of statements, an arm, or one that opens nothing.
 abbrev pub block_or_plain : Opener → Site → Section → Depth → ℕ → Node → Option (GroupForm × List Node) → Result (Option Counted) TreeFault
-block_or_plain opener site where_it_stands depth room node None = plain_statement site where_it_stands depth.levels room node
+block_or_plain opener site where_it_stands depth room node None = arm_or_plain opener site where_it_stands depth room node (arm_of node)
 block_or_plain opener site where_it_stands depth room node (Some block) = group_at opener depth room node.place block.0 block.1 >>= λ one. Ok (Some one)
 
 -- A statement, by the policy that it calls, if it calls one.
@@ -97,10 +119,11 @@ unfoldable pub statement_by : Opener → Site → Section → Depth → ℕ → 
 statement_by opener site section depth room node =
     called_or_not opener site section depth room node (policy_called site.root section node)
 
--- What was read, with one more statement, where it counts as written.
-abbrev pub and_also : Members → Option Counted → Members
-and_also members None = members
-and_also members (Some one) = record { overrides = members.overrides; statements = members.statements ++ one.statement ∷ []; room = one.room }
+-- What was read, with what a node reads as, where it counts as written: one more statement, or more arms of the last one.
+abbrev pub and_also : Members → Node → Option Counted → Members
+and_also members node None = members
+and_also members node (Some one) =
+    record { overrides = members.overrides; statements = with_next members.statements node one.statement; room = one.room }
 
 -- What was read, with an action of the block's own.
 unfoldable pub with_own_action : Members → Node → Result Members TreeFault
@@ -120,7 +143,10 @@ has_own_actions form.Policy = false
 unfoldable pub with_member : Opener → Site → Section → Depth → GroupForm → Members → Node → Result Members TreeFault
 with_member opener site section depth form members node =
     if has_own_actions form && is_pair node then with_own_action members node
-    else (statement_by opener site section depth members.room node >>= λ one. Ok (and_also members one))
+    else (do
+      placed ← not_stray (is_last_open members.statements) node
+      one ← statement_by opener site section depth members.room node
+      Ok (and_also members node one))
 
 -- Nothing was read yet but these actions, and the server has room for so many statements more.
 abbrev pub begun : List Override → ℕ → Members
@@ -139,7 +165,10 @@ statement_at site section room node = statement_by (opened_at site section most_
 
 -- The statements with that of one more node.
 unfoldable pub with_statement : Site → Section → Members → Node → Result Members TreeFault
-with_statement site section members node = statement_at site section members.room node >>= λ one. Ok (and_also members one)
+with_statement site section members node = do
+  placed ← not_stray (is_last_open members.statements) node
+  one ← statement_at site section members.room node
+  Ok (and_also members node one)
 
 -- The statements of a section's nodes, in order, and how many more the server has room for. A section has no actions of its own.
 abbrev pub members_of : Site → Section → ℕ → List Node → Result Members TreeFault

@@ -3,6 +3,7 @@ pub mod Readings
 pub mod Words
 pub mod Actions
 pub mod Calls
+pub mod Arms
 pub mod Updates
 pub mod Sites
 pub mod Statements

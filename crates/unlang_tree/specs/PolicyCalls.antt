@@ -1,19 +1,15 @@
 -- Calls of policies: a policy's statements are laid out where it is called. After the manual page unlang(5).
-use Rattle.std.specs.Prelude.{ℕ, Bool, true, false, not, ◌&&◌, ◌||◌, ◌-◌, List, [], ◌∷◌, ◌++◌, Option, Some, None, is_some, Result, Ok, if◌then◌else◌}
+use Rattle.std.specs.Prelude.{ℕ, Bool, true, false, not, ◌&&◌, ◌||◌, List, Option, None, is_some, Result, Ok, if◌then◌else◌}
 use Rattle.std.specs.List.{list_all}
-use Rattle.rad_outside.specs.declared.files.Place.{Place}
 use Rattle.rad_conf.specs.declared.tree.Word.{Word}
 use Rattle.rad_conf.specs.declared.tree.Node.{Node}
 use Rattle.rad_conf.specs.declared.tree.Item.{out-Item}
 use Rattle.rad_conf.specs.declared.tree.Item.TheOpen as level
 use Rattle.rad_words.specs.declared.sections.Section.{Section}
-use Rattle.rad_text.specs.Read.{◌>>=◌}
 use Rattle.unlang_tree.specs.declared.fault.TreeFault.{TreeFault}
-use Rattle.unlang_tree.specs.declared.statement.Override.{Override}
-use Rattle.unlang_tree.specs.Readings.{one_more, one_deeper}
+use Rattle.unlang_tree.specs.Readings.{one_deeper}
 use Rattle.unlang_tree.specs.Words.{is_word_statement, is_keyword}
 use Rattle.unlang_tree.specs.Calls.{policy_for, called_name}
-use Rattle.unlang_tree.specs.Actions.{overrides_of}
 use Rattle.unlang_tree.specs.Statements.{is_pair}
 
 -- A block is a call: no keyword and no name, and only pairs in it.

@@ -1,6 +1,6 @@
 -- The sections of a virtual server, and the subsections of authenticate and post-auth. After the manual pages radiusd.conf(5)
 -- and unlang(5).
-use Rattle.std.specs.Prelude.{ℕ, Bool, List, [], ◌∷◌, ◌++◌, Option, Some, None, option_map, Result, Ok, codes, if◌then◌else◌}
+use Rattle.std.specs.Prelude.{ℕ, Bool, false, List, [], ◌∷◌, ◌++◌, Option, Some, None, option_map, Result, Ok, codes, if◌then◌else◌}
 use Rattle.std.specs.Str.{str_eq_ignore_ascii_case}
 use Rattle.rad_conf.specs.declared.tree.Node.{Node}
 use Rattle.rad_conf.specs.declared.tree.Item.{out-Item}
@@ -24,6 +24,7 @@ use Rattle.unlang_tree.specs.Readings.{most_statements, after_each}
 use Rattle.unlang_tree.specs.Words.{section_of}
 use Rattle.unlang_tree.specs.Calls.{called_name}
 use Rattle.unlang_tree.specs.declared.statements.Counted.{Counted}
+use Rattle.unlang_tree.specs.Arms.{is_open, not_stray, with_next}
 use Rattle.unlang_tree.specs.Groups.{statement_at, members_of}
 
 -- The word that begins a subsection of a section; nothing where it has none.
@@ -48,7 +49,7 @@ subsection_block where_it_stands node = elim (out-Item node.item) [
   | level.Block kind (Some name) body ↦ if is_subsection where_it_stands kind.text then Some (name.text, body) else None
 ]
 
--- The subsections with one more, whose statements are these nodes.
+-- The subsections with one more, whose statements are these nodes. No `elsif` or `else` may follow.
 unfoldable pub with_subsection : Site → Section → Parts → List ℕ → List Node → Result Parts TreeFault
 with_subsection site where_it_stands known name body =
     members_of site where_it_stands known.room body
@@ -56,6 +57,7 @@ with_subsection site where_it_stands known name body =
       statements = known.statements;
       subsections = known.subsections ++ record { name = name; statements = members.statements } ∷ [];
       room = members.room;
+      may_go_on = false;
     })
 
 -- The name that an item calls, where it is a call.
@@ -81,6 +83,7 @@ own_name node kind = elim (out-StatementKind kind) [
   | opened.Group group ↦ policy_name node (out-Group group).form
   | opened.Return ↦ None
   | opened.Update lines ↦ None
+  | opened.If arms ↦ None
 ]
 
 -- The subsections with a call that stands for one. Another statement is counted, and is never run.
@@ -88,23 +91,32 @@ abbrev pub with_call : Option (List ℕ) → Statement → List Subsection → L
 with_call None statement subsections = subsections
 with_call (Some name) statement subsections = subsections ++ record { name = name; statements = statement ∷ [] } ∷ []
 
--- The parts with a statement that runs with the section.
-abbrev pub with_run : Parts → Counted → Parts
-with_run known one = record { statements = known.statements ++ one.statement ∷ []; subsections = known.subsections; room = one.room }
+-- The parts with a statement that runs with the section, or more arms of the last one.
+abbrev pub with_run : Node → Parts → Counted → Parts
+with_run node known one = record {
+  statements = with_next known.statements node one.statement;
+  subsections = known.subsections;
+  room = one.room;
+  may_go_on = is_open one.statement;
+}
 
 -- The parts with a statement directly in authenticate.
 abbrev pub with_own : Node → Parts → Counted → Parts
-with_own node known one =
-    record { statements = known.statements; subsections = with_call (own_name node one.statement.kind) one.statement known.subsections; room = one.room }
+with_own node known one = record {
+  statements = known.statements;
+  subsections = with_call (own_name node one.statement.kind) one.statement known.subsections;
+  room = one.room;
+  may_go_on = is_open one.statement;
+}
 
 -- The parts with a statement directly in a section, where it counts as written.
 abbrev pub with_written : Section → Node → Parts → Counted → Parts
-with_written section.Authorize node known one = with_run known one
+with_written section.Authorize node known one = with_run node known one
 with_written section.Authenticate node known one = with_own node known one
-with_written section.Session node known one = with_run known one
-with_written section.Preacct node known one = with_run known one
-with_written section.Accounting node known one = with_run known one
-with_written section.PostAuth node known one = with_run known one
+with_written section.Session node known one = with_run node known one
+with_written section.Preacct node known one = with_run node known one
+with_written section.Accounting node known one = with_run node known one
+with_written section.PostAuth node known one = with_run node known one
 
 -- The parts with what a node directly in a section reads as.
 abbrev pub with_one : Section → Node → Parts → Option Counted → Parts
@@ -115,13 +127,13 @@ with_one where_it_stands node known (Some one) = with_written where_it_stands no
 unfoldable pub with_part : Site → Section → Parts → Node → Result Parts TreeFault
 with_part site where_it_stands known node = elim (subsection_block where_it_stands node) [
   | Some block ↦ with_subsection site where_it_stands known block.0 block.1
-  | None ↦ statement_at site where_it_stands known.room node >>= λ one. Ok (with_one where_it_stands node known one)
+  | None ↦ not_stray known.may_go_on node >>= λ placed. statement_at site where_it_stands known.room node >>= λ one. Ok (with_one where_it_stands node known one)
 ]
 
 -- What is known of a section by its nodes.
 abbrev pub parts_of : Site → Section → ℕ → List Node → Result Parts TreeFault
 parts_of site where_it_stands room body =
-    after_each (with_part site where_it_stands) (record { statements = []; subsections = []; room = room }) body
+    after_each (with_part site where_it_stands) (record { statements = []; subsections = []; room = room; may_go_on = false }) body
 
 -- The section and the nodes of a server's item, which is a block of that section's name.
 abbrev pub section_block : Node → Option (Section × List Node)

@@ -7,6 +7,8 @@ use Rattle.rad_words.specs.declared.sections.Section.{Section}
 use Rattle.rad_words.specs.declared.sections.Section.TheVariants as section
 use Rattle.unlang_tree.specs.declared.statement.GroupForm.{GroupForm}
 use Rattle.unlang_tree.specs.declared.statement.GroupForm.TheVariants as form
+use Rattle.unlang_tree.specs.declared.words.ArmWord.{ArmWord}
+use Rattle.unlang_tree.specs.declared.words.ArmWord.TheVariants as arm
 
 -- The name of a section.
 abbrev pub word_of : Section → List ℕ
@@ -53,11 +55,19 @@ form_named kind =
     else (if str_eq_ignore_ascii_case kind (codes "redundant-load-balance") then Some form.RedundantLoadBalance
     else None)))
 
--- The blocks that are statements and no calls, beside `update`, `group` and its kin. They aren't built yet.
+-- The word of an arm, by a block's kind.
+unfoldable pub arm_named : List ℕ → Option ArmWord
+arm_named kind =
+    if str_eq_ignore_ascii_case kind (codes "if") then Some arm.If
+    else (if str_eq_ignore_ascii_case kind (codes "elsif") then Some arm.Elsif
+    else (if str_eq_ignore_ascii_case kind (codes "else") then Some arm.Else
+    else None))
+
+-- The blocks that are statements and no calls, beside `update`, the arms of `if`, `group` and its kin. They aren't built yet.
 abbrev pub later_blocks : List (List ℕ)
-later_blocks =
-    codes "if" ∷ codes "elsif" ∷ codes "else" ∷ codes "switch" ∷ codes "foreach" ∷ codes "map" ∷ codes "parallel" ∷ []
+later_blocks = codes "switch" ∷ codes "foreach" ∷ codes "map" ∷ codes "parallel" ∷ []
 
 -- Whether a block of this kind is a statement of its own, and so no call.
 abbrev pub is_keyword : List ℕ → Bool
-is_keyword kind = str_eq_ignore_ascii_case kind (codes "update") || is_some (form_named kind) || is_one_of later_blocks kind
+is_keyword kind =
+    str_eq_ignore_ascii_case kind (codes "update") || is_some (form_named kind) || is_some (arm_named kind) || is_one_of later_blocks kind

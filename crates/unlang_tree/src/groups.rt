@@ -1,27 +1,29 @@
 //! The statements of a section, with blocks and policies within one another. What stands within a statement is read by the same
 //! functions with a statement less to go, so that no configuration leads deeper than a server has room for statements.
 
-ghost use Rattle.std.specs.Prelude.{◌≡◌, ◌-◌, OnOk};
+ghost use Rattle.std.specs.Prelude.{◌≡◌, ◌-◌, OnOk, IfOk};
 ghost use Rattle.std.specs.Option.{option_map};
 ghost use Rattle.unlang_tree.specs.Readings.{Gives, Leaves, after_each};
 ghost use Rattle.unlang_tree.specs.Sites.{site_of};
 ghost use Rattle.unlang_tree.specs.Depths.{depth_of};
-ghost use Rattle.unlang_tree.specs.Groups.{plain_block, plain_statement, group_block, group_of, group_at, policy_call, statement_by, and_also, with_own_action, has_own_actions, with_member, begun, opened_at, statement_at, with_statement, members_of};
+ghost use Rattle.unlang_tree.specs.Groups.{plain_block, plain_statement, group_block, group_of, group_at, if_of, arm_at, policy_call, statement_by, and_also, with_own_action, has_own_actions, with_member, begun, opened_at, statement_at, with_statement, members_of};
 
 use crate::actions::{overrides_of, with_override};
+use crate::arms::{arm_of, condition_at, is_last_open, not_stray, with_next};
 use crate::calls::{body_of, kind_of, not_open};
 use crate::depth::{DepthRef, with_name};
 use crate::fault::TreeFault;
 use crate::policy_calls::{braces_at, policy_called};
 use crate::refusal::{Wrong, one_deeper, one_more, refuse};
 use crate::site::SiteRef;
-use crate::statement::{Group, GroupForm, Overrides, StatementKind, Statements};
+use crate::statement::{Arm, Arms, Group, GroupForm, Overrides, StatementKind, Statements};
 use crate::statements::{Counted, call_block_at, is_pair, update_statement, with_room, word_at};
-use crate::words::{form_named, is_later_block, is_update};
+use crate::words::{ArmWord, form_named, is_later_block, is_update};
 use rad_conf::{Item, Node, Word};
 use rad_outside::{NoMemory, Place};
 use rad_words::Section;
 use std::alloc::Global;
+use unlang_cond::Cond;
 
 /// How many blocks stand within one another at most.
 const MOST_LEVELS: u32 = 32;
@@ -31,7 +33,7 @@ const MOST_WITHIN: u32 = 65_536;
 
 /// What was read of what stands within a statement: its own actions, its statements, and how many statements more the server
 /// has room for.
-#[derive(Debug, Drop)]
+#[derive(Drop)]
 pub struct Members {
     pub overrides: Overrides,
     pub statements: Statements,
@@ -153,6 +155,57 @@ fn group_at(
     Ok(with_room(alloc, left, place, group_of(form, members))?)
 }
 
+/// The `if` of one arm.
+fn if_of(
+    alloc: Global,
+    condition: Option<Cond>,
+    statements: Statements,
+) -> Result<StatementKind, NoMemory>
+    ensures { IfOk result (λ kind. kind ≡ if_of condition statements) }
+{
+    let mut arms = Arms::new(alloc);
+    arms.push(Arm {
+        condition,
+        statements,
+    })?;
+    Ok(StatementKind::If(arms))
+}
+
+/// An arm, as an `if` of its own.
+#[cycle(blocks)]
+#[tactic(auto, unfolding(crate::specs::Groups::arm_at))]
+fn arm_at(
+    alloc: Global,
+    site: &SiteRef<'_>,
+    section: Section,
+    within: u32,
+    depth: &DepthRef<'_>,
+    room: usize,
+    word: ArmWord,
+    node: &Node,
+) -> Result<Counted, TreeFault>
+    ensures { Gives result (arm_at (opened_at (site_of site.now) section within) (site_of site.now) (depth_of depth.now) room word node.now) }
+{
+    let place = &node.place;
+    let condition = condition_at(alloc, site.dict, word, node)?;
+    one_deeper(alloc, depth.levels, place)?;
+    one_more(alloc, room, place)?;
+    let inner = DepthRef {
+        levels: depth.levels.saturating_sub(1),
+        entered: depth.entered,
+    };
+    let none = Overrides::new(alloc);
+    let form = GroupForm::Policy;
+    let left = room.saturating_sub(1);
+    let body = body_of(node);
+    let members = members_in(
+        alloc, site, section, within, &inner, place, form, none, left, body,
+    )?;
+    let after = members.room;
+    let kind = if_of(alloc, condition, members.statements)?;
+    Ok(with_room(alloc, after, place, kind)?)
+}
+
 /// The call of a policy.
 #[cycle(blocks)]
 #[tactic(auto, unfolding(crate::specs::Groups::policy_call))]
@@ -207,27 +260,35 @@ fn statement_by(
         let one = policy_call(alloc, site, section, within, depth, room, node, policy)?;
         return Ok(Some(one));
     }
-    match group_block(node) {
+    if let Some((form, body)) = group_block(node) {
+        let place = &node.place;
+        let one = group_at(alloc, site, section, within, depth, room, place, form, body)?;
+        return Ok(Some(one));
+    }
+    match arm_of(node) {
         None => plain_statement(alloc, site, section, depth.levels, room, node),
-        Some((form, body)) => {
-            let place = &node.place;
-            let one = group_at(alloc, site, section, within, depth, room, place, form, body)?;
+        Some(word) => {
+            let one = arm_at(alloc, site, section, within, depth, room, word, node)?;
             Ok(Some(one))
         }
     }
 }
 
-/// One more statement at the end, where it counts as written.
-fn and_also(members: &mut Members, one: Option<Counted>) -> Result<(), NoMemory>
-    ensures { OnOk result (members.new ≡ and_also members.old one) }
+/// What was read, with what a node reads as, where it counts as written.
+fn and_also(
+    alloc: Global,
+    members: &mut Members,
+    node: &Node,
+    one: Option<Counted>,
+) -> Result<(), NoMemory>
+    ensures { OnOk result (members.new ≡ and_also members.old node.now one) }
 {
     match one {
         None => Ok(()),
         Some(one) => {
             let Counted { statement, room } = one;
             members.room = room;
-            members.statements.push(statement)?;
-            Ok(())
+            with_next(alloc, &mut members.statements, node, statement)
         }
     }
 }
@@ -271,8 +332,9 @@ fn with_member(
     if has_own_actions(form) && is_pair(node) {
         return with_own_action(alloc, members, node);
     }
+    not_stray(alloc, is_last_open(members.statements.as_slice()), node)?;
     let one = statement_by(alloc, site, section, within, depth, members.room, node)?;
-    and_also(members, one)?;
+    and_also(alloc, members, node, one)?;
     Ok(())
 }
 
@@ -357,8 +419,9 @@ fn with_statement(
 ) -> Result<(), TreeFault>
     ensures { Leaves result (with_statement (site_of site.now) section members.old node.now) members.new }
 {
+    not_stray(alloc, is_last_open(members.statements.as_slice()), node)?;
     let one = statement_at(alloc, site, section, members.room, node)?;
-    and_also(members, one)?;
+    and_also(alloc, members, node, one)?;
     Ok(())
 }
 

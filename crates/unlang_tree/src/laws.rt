@@ -1,7 +1,7 @@
 //! The laws of policies, in the words of whoever writes them. They are facts about the definitions, and the functions do
 //! nothing.
 
-ghost use Rattle.std.specs.Prelude.{◌≡◌, Bool, true, ℕ, ◌-◌, ◌<◌, ◌≤◌, List, [], ◌∷◌, ◌++◌, length, codes, Option, Some, None, Ok, Err};
+ghost use Rattle.std.specs.Prelude.{◌≡◌, Bool, true, ℕ, ◌+◌, ◌-◌, ◌<◌, ◌≤◌, List, [], ◌∷◌, ◌++◌, length, codes, Option, Some, None, Ok, Err};
 ghost use Rattle.rad_conf.specs.declared.tree.Node.{Node};
 ghost use Rattle.rad_conf.specs.declared.tree.Word.{Word};
 ghost use Rattle.rad_words.specs.declared.sections.Section.{Section as AnySection};
@@ -14,7 +14,9 @@ ghost use Rattle.unlang_tree.specs.declared.policies.ServerTree.{ServerTree};
 ghost use Rattle.unlang_tree.specs.EachCall.{EachCall, EachCallOf, IsMet, Passes};
 ghost use Rattle.unlang_tree.specs.Calls.{kind_of, body_of};
 ghost use Rattle.unlang_tree.specs.Written.{IsBlock, CallsPolicy, Spell, IsUnknown};
-ghost use Rattle.unlang_tree.specs.WrittenGroups.{Begins, group_from, SpellBlock, Around, LeadsBack};
+ghost use Rattle.unlang_tree.specs.WrittenGroups.{Begins, group_from, SpellBlock, arm_from, if_from, IsAsking, SpellArms, Around, LeadsBack};
+ghost use Rattle.unlang_cond.specs.Trees.{Tree as AnyCondition};
+ghost use Rattle.unlang_tree.specs.declared.statement.Arm.{Arm as AnyArm};
 ghost use Rattle.unlang_tree.specs.declared.statement.GroupForm.{GroupForm as AnyForm};
 ghost use Rattle.unlang_tree.specs.declared.statement.Override.{Override as AnyOverride};
 
@@ -47,13 +49,34 @@ pub fn a_written_site_is_read()
         → servers_of site ≡ Ok (record { name = name.text; sections = record { section = Section.Authorize; statements = calls; subsections = [] } ∷ [] } ∷ []) }
 {}
 
-/// A block that is written as `group { .. }`, or with the word of its kin, with calls of instances and policies, `return`, actions
-/// of its own and such blocks in it, no more than 31 within one another, is read as that block, with these actions and exactly
+/// A block that is written as `group { .. }`, or with the word of its kin, with calls of instances and policies, `return`, `if` with
+/// its arms, actions of its own and such blocks in it, no more than 31 within one another, is read as that block, with these actions and exactly
 /// these statements in order, wherever the server has room for it and them: it is one statement, and leaves so many fewer.
 pub fn a_written_group_is_read()
     ensures { (site : Site) (section : AnySection) (room : ℕ) (node : Node) (form : AnyForm) (word : List ℕ) (name : Option Word) (body : List Node) (own : List AnyOverride) (inner : List AnyStatement) (count : ℕ)
         → Begins form word → IsBlock node word name body → SpellBlock site section 31 [] body own inner count → count < room → room ≤ 65536
         → statement_at site section room node ≡ Ok (Some (record { statement = group_from node form own inner; room = room - 1 - count })) }
+{}
+
+/// An `if` that is written directly in a section, with the `elsif` and `else` behind it, is read as one statement with exactly
+/// these arms, in order: each with the condition that its text says, `else` with none, and with exactly the statements in it. A
+/// `-name` of nothing may stand before each arm. In blocks and policies the same is a part of what they spell.
+pub fn a_written_if_is_read()
+    ensures { (site : Site) (section : AnySection) (room : ℕ) (node : Node) (later : List Node) (condition : AnyCondition) (body : List Node) (inner : List AnyStatement) (count : ℕ) (arms : List AnyArm) (more : ℕ)
+        → IsAsking site node (codes "if") condition body → SpellBlock site section 31 [] body [] inner count → SpellArms site section 31 [] later arms more
+        → count + more < room → room ≤ 65536
+        → statements_of site section room (node ∷ later) ≡ Ok (if_from node (arm_from (Some condition) inner ∷ arms) ∷ []) }
+{}
+
+/// An `elsif` or an `else` behind good calls alone follows no `if`: it is the fault UnknownKeyword of its section, at its place,
+/// whatever it asks and whatever stands in it and behind it.
+pub fn a_stray_else_is_an_unknown_keyword()
+    ensures asking { (site : Site) (section : AnySection) (room : ℕ) (good : List Node) (calls : List AnyStatement) (bad : Node) (name : Option Word) (body rest : List Node)
+        → Spell site section good calls → length calls ≤ room → IsBlock bad (codes "elsif") name body
+        → statements_of site section room (good ++ bad ∷ rest) ≡ Err (TreeFault.UnknownKeyword bad.place) }
+    ensures last { (site : Site) (section : AnySection) (room : ℕ) (good : List Node) (calls : List AnyStatement) (bad : Node) (name : Option Word) (body rest : List Node)
+        → Spell site section good calls → length calls ≤ room → IsBlock bad (codes "else") name body
+        → statements_of site section room (good ++ bad ∷ rest) ≡ Err (TreeFault.UnknownKeyword bad.place) }
 {}
 
 /// A word that calls a policy is read as the policy's statements, laid out where the word stands and read in the calling section:

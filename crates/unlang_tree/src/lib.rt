@@ -7,6 +7,7 @@
 #![tactic(auto)]
 
 mod actions;
+mod arms;
 mod calls;
 mod depth;
 mod fault;
@@ -30,14 +31,15 @@ pub use fault::{AddFault, TreeFault};
 pub use instances::Instances;
 pub use laws::{
     a_called_policy_is_read_where_it_stands, a_policy_that_calls_itself_is_a_loop,
-    a_written_group_is_read, a_written_site_is_read, each_call_can_be_made,
-    the_33rd_block_is_too_deep, the_first_unknown_word_is_the_fault,
-    what_holds_of_each_call_can_be_widened, written_calls_are_read,
+    a_stray_else_is_an_unknown_keyword, a_written_group_is_read, a_written_if_is_read,
+    a_written_site_is_read, each_call_can_be_made, the_33rd_block_is_too_deep,
+    the_first_unknown_word_is_the_fault, what_holds_of_each_call_can_be_widened,
+    written_calls_are_read,
 };
 pub use mod_base::MethodSet;
 pub use policies::{Policies, SectionTree, Sections, ServerTree, Subsection, Subsections};
 pub use statement::{
-    Call, Group, GroupForm, Override, Overrides, Statement, StatementKind, Statements,
+    Arm, Arms, Call, Group, GroupForm, Override, Overrides, Statement, StatementKind, Statements,
 };
 pub use tree::Tree;
 pub use update::{Line, Lines, Right};

@@ -11,7 +11,7 @@ use std::marker::Model;
 use std::sync::Arc;
 
 /// A subsection of a section, as `Auth-Type NAME { .. }` in authenticate.
-#[derive(Debug, Drop)]
+#[derive(Drop)]
 pub struct Subsection {
     pub name: Octets,
     pub statements: Statements,
@@ -21,7 +21,7 @@ pub struct Subsection {
 pub type Subsections = Items<Subsection>;
 
 /// A section of a server: the statements that run with it, and its subsections.
-#[derive(Debug, Drop)]
+#[derive(Drop)]
 pub struct SectionTree {
     pub section: Section,
     pub statements: Statements,
@@ -32,7 +32,7 @@ pub struct SectionTree {
 pub type Sections = Items<SectionTree>;
 
 /// A virtual server: its name and its sections.
-#[derive(Debug, Drop)]
+#[derive(Drop)]
 pub struct ServerTree {
     pub name: Octets,
     pub sections: Sections,
@@ -40,7 +40,7 @@ pub struct ServerTree {
 
 /// The source trees of all servers of a site, in the order of the configuration. They are shared, so that a second
 /// holder of them copies nothing.
-#[derive(Debug, Drop)]
+#[derive(Drop)]
 pub struct Policies {
     servers: Arc<Items<ServerTree>>,
 }

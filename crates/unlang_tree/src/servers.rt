@@ -22,7 +22,7 @@ use std::alloc::Global;
 const MOST_STATEMENTS: usize = 65_536;
 
 /// What is known of a server: its sections, and how many statements more it has room for.
-#[derive(Debug, Drop)]
+#[derive(Drop)]
 pub struct Known {
     pub sections: Sections,
     pub room: usize,

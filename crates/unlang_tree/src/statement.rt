@@ -5,6 +5,7 @@ use rad_outside::Place;
 use rad_tables::Action;
 use rad_words::Code;
 use sqlite_items::Items;
+use unlang_cond::Cond;
 
 /// An action that a call takes on one code, in the place of the default one.
 #[derive(Clone, Copy, Debug)]
@@ -42,16 +43,28 @@ pub enum GroupForm {
 
 /// A block of statements, which is judged in its parent by its own code and actions.
 #[cycle(statement)]
-#[derive(Debug, Drop)]
+#[derive(Drop)]
 pub struct Group {
     pub form: GroupForm,
     pub overrides: Overrides,
     pub statements: Statements,
 }
 
+/// An arm of an `if`: `if (c) { .. }`, `elsif (c) { .. }`, or `else { .. }`, which asks nothing.
+#[cycle(statement)]
+#[derive(Drop)]
+pub struct Arm {
+    /// What has to hold; `None` for `else`.
+    pub condition: Option<Cond>,
+    pub statements: Statements,
+}
+
+/// The arms of an `if`, in order.
+pub type Arms = Items<Arm>;
+
 /// What a statement does.
 #[cycle(statement)]
-#[derive(Debug, Drop)]
+#[derive(Drop)]
 pub enum StatementKind {
     /// `name`, or `-name` where there is such an instance.
     Call(Call),
@@ -61,11 +74,13 @@ pub enum StatementKind {
     Return,
     /// `update list { lines }`
     Update(Lines),
+    /// `if (c) { .. }` with its `elsif` and `else`: the first whose condition holds runs as a group of its own.
+    If(Arms),
 }
 
 /// A statement, and where it begins in the configuration.
 #[cycle(statement)]
-#[derive(Debug, Drop)]
+#[derive(Drop)]
 pub struct Statement {
     pub place: Place,
     pub kind: StatementKind,

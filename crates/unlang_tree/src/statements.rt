@@ -21,7 +21,7 @@ use rad_words::Section;
 use std::alloc::Global;
 
 /// A statement that was read, and how many more the server has room for.
-#[derive(Debug, Drop)]
+#[derive(Drop)]
 pub struct Counted {
     pub statement: Statement,
     pub room: usize,

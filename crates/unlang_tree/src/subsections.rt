@@ -6,6 +6,7 @@ ghost use Rattle.unlang_tree.specs.Readings.{Gives, Leaves};
 ghost use Rattle.unlang_tree.specs.Sites.{site_of};
 ghost use Rattle.unlang_tree.specs.Sections.{subsection_word, is_subsection, subsection_block, with_subsection, name_called, policy_name, own_name, with_call, with_run, with_own, with_written, with_one, with_part, parts_of};
 
+use crate::arms::{is_open, not_stray, with_next};
 use crate::calls::called_name;
 use crate::fault::TreeFault;
 use crate::groups::{members_of, statement_at};
@@ -19,11 +20,13 @@ use rad_words::Section;
 use std::alloc::Global;
 
 /// What is known of a section: its statements, its subsections, and how many statements more the server has room for.
-#[derive(Debug, Drop)]
+#[derive(Drop)]
 pub struct Parts {
     pub statements: Statements,
     pub subsections: Subsections,
     pub room: usize,
+    /// An `elsif` or `else` may follow.
+    pub may_go_on: bool,
 }
 
 /// The word that begins a subsection of a section; nothing where it has none.
@@ -79,6 +82,7 @@ fn with_subsection(
     let members = members_of(alloc, site, section, known.room, body)?;
     let name = Octets::of(alloc, name)?;
     known.room = members.room;
+    known.may_go_on = false;
     let statements = members.statements;
     known.subsections.push(Subsection { name, statements })?;
     Ok(())
@@ -117,6 +121,7 @@ fn own_name<'a>(node: &'a Node, kind: &StatementKind) -> Option<&'a [u8]>
         StatementKind::Group(group) => policy_name(node, group.form),
         StatementKind::Return => None,
         StatementKind::Update(_) => None,
+        StatementKind::If(_) => None,
     }
 }
 
@@ -139,13 +144,13 @@ fn push_call(
     Ok(())
 }
 
-/// The parts with a statement that runs with the section.
-fn with_run(known: &mut Parts, one: Counted) -> Result<(), NoMemory>
-    ensures { OnOk result (known.new ≡ with_run known.old one) }
+/// The parts with a statement that runs with the section, or more arms of the last one.
+fn with_run(alloc: Global, node: &Node, known: &mut Parts, one: Counted) -> Result<(), NoMemory>
+    ensures { OnOk result (known.new ≡ with_run node.now known.old one) }
 {
     known.room = one.room;
-    known.statements.push(one.statement)?;
-    Ok(())
+    known.may_go_on = is_open(&one.statement);
+    with_next(alloc, &mut known.statements, node, one.statement)
 }
 
 /// The parts with a statement directly in authenticate.
@@ -154,6 +159,7 @@ fn with_own(alloc: Global, node: &Node, known: &mut Parts, one: Counted) -> Resu
 {
     let Counted { statement, room } = one;
     known.room = room;
+    known.may_go_on = is_open(&statement);
     let name = own_name(node, &statement.kind);
     push_call(alloc, name, statement, &mut known.subsections)
 }
@@ -174,7 +180,7 @@ fn with_written(
         | Section::Session
         | Section::Preacct
         | Section::Accounting
-        | Section::PostAuth => with_run(known, one),
+        | Section::PostAuth => with_run(alloc, node, known, one),
     }
 }
 
@@ -208,6 +214,7 @@ fn with_part(
     if let Some((name, body)) = subsection_block(section, node) {
         return with_subsection(alloc, site, section, known, name, body);
     }
+    not_stray(alloc, known.may_go_on, node)?;
     let one = statement_at(alloc, site, section, known.room, node)?;
     with_one(alloc, section, node, known, one)?;
     Ok(())
@@ -227,6 +234,7 @@ pub(crate) fn parts_of(
         statements: Statements::new(alloc),
         subsections: Subsections::new(alloc),
         room,
+        may_go_on: false,
     };
     for node in body {
         with_part(alloc, site, section, &mut known, node)?;

@@ -3,7 +3,7 @@
 ghost use Rattle.std.specs.Prelude.{◌≡◌, codes};
 ghost use Rattle.std.specs.List.{list_any};
 ghost use Rattle.std.specs.Str.{str_eq_ignore_ascii_case};
-ghost use Rattle.unlang_tree.specs.Words.{word_of, section_of, is_one_of, is_return, later_words, is_word_statement, form_named, later_blocks, is_keyword};
+ghost use Rattle.unlang_tree.specs.Words.{word_of, section_of, is_one_of, is_return, later_words, is_word_statement, form_named, arm_named, later_blocks, is_keyword};
 
 use crate::statement::GroupForm;
 use rad_words::Section;
@@ -96,16 +96,32 @@ pub(crate) fn form_named(kind: &[u8]) -> Option<GroupForm>
     }
 }
 
-/// The blocks that are statements and no calls, beside `update`, `group` and its kin.
-const LATER_BLOCKS: [&[u8]; 7] = [
-    b"if",
-    b"elsif",
-    b"else",
-    b"switch",
-    b"foreach",
-    b"map",
-    b"parallel",
-];
+/// The word that begins an arm of an `if`.
+#[derive(Clone, Copy, Debug, PartialEq, Eq)]
+pub enum ArmWord {
+    If,
+    Elsif,
+    Else,
+}
+
+/// The word of an arm, by a block's kind.
+#[tactic(auto, unfolding(crate::specs::Words::arm_named))]
+pub(crate) fn arm_named(kind: &[u8]) -> Option<ArmWord>
+    ensures { result ≡ arm_named kind.now }
+{
+    if kind.eq_ignore_ascii_case(b"if") {
+        Some(ArmWord::If)
+    } else if kind.eq_ignore_ascii_case(b"elsif") {
+        Some(ArmWord::Elsif)
+    } else if kind.eq_ignore_ascii_case(b"else") {
+        Some(ArmWord::Else)
+    } else {
+        None
+    }
+}
+
+/// The blocks that are statements and no calls, beside `update`, the arms of `if`, `group` and its kin.
+const LATER_BLOCKS: [&[u8]; 4] = [b"switch", b"foreach", b"map", b"parallel"];
 
 /// Whether a block of this kind is a statement that isn't built yet.
 pub(crate) fn is_later_block(kind: &[u8]) -> bool
@@ -125,5 +141,8 @@ pub(crate) fn is_update(kind: &[u8]) -> bool
 pub(crate) fn is_keyword(kind: &[u8]) -> bool
     ensures { result ≡ is_keyword kind.now }
 {
-    is_update(kind) || form_named(kind).is_some() || is_later_block(kind)
+    is_update(kind)
+        || form_named(kind).is_some()
+        || arm_named(kind).is_some()
+        || is_later_block(kind)
 }

@@ -3,9 +3,9 @@
 ghost use Rattle.std.specs.Prelude.{◌≡◌};
 ghost use Rattle.rad_outside.specs.Telling.{Counts};
 ghost use Rattle.rad_site.specs.Built.{dict_at};
-ghost use Rattle.rad_site.specs.Sources.{FindsIn};
+ghost use Rattle.rad_build.specs.Sources.{FindsIn};
 
-use crate::fault::BuildFault;
+use rad_build::BuildFault;
 use rad_conf::path_of;
 use rad_dict::Dict;
 use rad_outside::{Files, Found};

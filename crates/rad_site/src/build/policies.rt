@@ -2,13 +2,12 @@
 
 ghost use Rattle.std.specs.Prelude.{◌≡◌};
 ghost use Rattle.unlang_tree.specs.Policies.{policies_of};
-ghost use Rattle.rad_site.specs.Nodes.{Gives};
-ghost use Rattle.rad_site.specs.TreeFault.{of_tree};
+ghost use Rattle.rad_build.specs.Nodes.{Gives};
+ghost use Rattle.rad_build.specs.TreeFault.{of_tree};
 ghost use Rattle.rad_site.specs.Built.{policies_in};
 
-use crate::build::instances::Modules;
-use crate::fault::BuildFault;
-use crate::policies::Policies;
+use rad_access::Policies;
+use rad_build::{BuildFault, Modules};
 use rad_conf::Conf;
 use rad_dict::Dict;
 use std::alloc::Global;

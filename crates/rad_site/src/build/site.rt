@@ -4,22 +4,17 @@ ghost use Rattle.std.specs.Prelude.{◌≡◌, []};
 ghost use Rattle.std.specs.List.{find};
 ghost use Rattle.std.specs.Option.{option_copied};
 ghost use Rattle.rad_outside.specs.Telling.{Counts};
-ghost use Rattle.rad_site.specs.Nodes.{Gives, bad_setting, after_each};
-ghost use Rattle.rad_site.specs.Sources.{FindsIn};
+ghost use Rattle.rad_build.specs.Nodes.{Gives, bad_setting, after_each};
+ghost use Rattle.rad_build.specs.Sources.{FindsIn};
 ghost use Rattle.rad_site.specs.Built.{whole_conf, is_unbuilt, none_unbuilt, with_client, with_item, clients_in, front_in, parts_in, site_behind, site_of};
 
-use crate::build::client::client_at;
-use crate::build::instances::Modules;
-use crate::build::item::is_block;
-use crate::build::modules::modules_in;
 use crate::build::policies::policies_in;
-use crate::build::refusal::{refuse, refuse_setting};
-use crate::build::servers::{Listener, servers_in};
-use crate::build::settings::settings_in;
-use crate::fault::BuildFault;
 use crate::generation::Generation;
-use crate::policies::Policies;
-use crate::settings::Settings;
+use rad_access::Policies;
+use rad_build::{
+    BuildFault, Listener, Modules, Settings, client_at, is_block, modules_in, refuse,
+    refuse_setting, servers_in, settings_in,
+};
 use rad_clients::Clients;
 use rad_conf::{Conf, Node};
 use rad_dict::Dict;

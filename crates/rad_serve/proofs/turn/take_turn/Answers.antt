@@ -8,7 +8,7 @@ use Rattle.rad_core.proofs.Behind.{alone_adds}
 use Rattle.rad_policy.specs.Policy.{IsAuthenticUnder}
 use Rattle.rad_policy.specs.Seen.{arrived_of, ending_seen, GivesOutcome}
 use Rattle.rad_core.specs.Answers.{answer_seen, IsTicketOf, IsHeld}
-use Rattle.rad_site.specs.declared.fault.BuildFault.{BuildFault}
+use Rattle.rad_build.specs.declared.fault.BuildFault.{BuildFault}
 use Rattle.rad_site.specs.Site.{Site}
 use Rattle.rad_site.specs.Meaning.{site_meaning}
 use Rattle.rad_serve.specs.History.{state_after}

@@ -1,5 +1,5 @@
 use Rattle.rad_outside.specs.Telling.{Rose}
-use Rattle.radiusd.proofs.Printings.{writes_front}
+use Rattle.rad_outside.proofs.Printings.{writes_front}
 use Rattle.radiusd.proofs.printing.say.Goals as goal
 
 pub returns-in-Ok-clause-printed : goal.returns-in-Ok-clause-printed

@@ -1,7 +1,8 @@
 use Rattle.std.proofs.Common.{ℕ, List, ◌++◌, subst}
 use Rattle.rad_outside.specs.Telling.{Rose, Tells}
-use Rattle.radiusd.specs.Printing.{Prints}
-use Rattle.radiusd.proofs.Printings.{Prints-behind, Prints-weaker, Prints-followed, Rose-since}
+use Rattle.rad_outside.specs.Printing.{Prints}
+use Rattle.rad_outside.proofs.Printings.{Prints-behind, Prints-weaker, Prints-followed}
+use Rattle.radiusd.proofs.Printings.{Rose-since}
 use Rattle.radiusd.proofs.site.close_failed.Goals as goal
 
 pub returns-in-Ok-clause-printed : goal.returns-in-Ok-clause-printed

@@ -4,7 +4,7 @@ use Rattle.rad_outside.specs.declared.listen.Listen.{Listen}
 use Rattle.rad_outside.specs.Crew.{Handed}
 use Rattle.rad_outside.specs.Telling.{Tells}
 use Rattle.rad_core.specs.declared.entry.Entry.{Entry}
-use Rattle.rad_site.specs.declared.fault.BuildFault.{BuildFault}
+use Rattle.rad_build.specs.declared.fault.BuildFault.{BuildFault}
 use Rattle.radiusd.specs.declared.status.Status.{Status}
 use Rattle.rad_serve.specs.declared.counts.Counts.{Counts}
 use Rattle.rad_serve.specs.Counting.{counts_of}
@@ -13,12 +13,14 @@ use Rattle.radiusd.specs.ExitStatuses.{number_of}
 use Rattle.rad_serve.specs.Told.{KitTells, GrowsBy}
 use Rattle.radiusd.specs.Course.{Serving, IsExcused, Call, closing_lines, status_line}
 use Rattle.radiusd.specs.Lines.{listening_line, counts_line}
-use Rattle.radiusd.specs.Printing.{Prints, PrintsWhole, IsCutShort}
+use Rattle.rad_outside.specs.Printing.{Prints, PrintsWhole}
+use Rattle.radiusd.specs.Printing.{IsCutShort}
 use Rattle.radiusd.specs.Headline.{Headline}
 use Rattle.rad_outside.proofs.Tellings.{Tells-same}
 use Rattle.rad_serve.proofs.Leavings.{unasked}
 use Rattle.rad_serve.proofs.Passes.{goes_on_still}
-use Rattle.radiusd.proofs.Printings.{Prints-nothing, Prints-weaker, Prints-behind, finished, unserved, uninstalled, cut_unfinished, cut_followed, excused_since}
+use Rattle.rad_outside.proofs.Printings.{Prints-nothing, Prints-weaker, Prints-behind}
+use Rattle.radiusd.proofs.Printings.{finished, unserved, uninstalled, cut_unfinished, cut_followed, excused_since}
 use Rattle.rad_serve.proofs.Tallies.{between, counts_apart}
 use Rattle.radiusd.proofs.Headlines.{headline_without_kit, headline_with_kit, tried_install}
 use Rattle.radiusd.proofs.site.serve_site.Goals as goal

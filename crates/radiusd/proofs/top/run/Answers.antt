@@ -11,7 +11,7 @@ use Rattle.radiusd.specs.Headline.{Headline}
 use Rattle.radiusd.specs.ExitStatuses.{number_of}
 use Rattle.radiusd.specs.Statuses.{NothingFailed, NothingFailedOfCheck}
 use Rattle.rad_outside.proofs.Tellings.{Tells-same}
-use Rattle.radiusd.proofs.Printings.{Prints-weaker, Prints-nothing}
+use Rattle.rad_outside.proofs.Printings.{Prints-weaker, Prints-nothing}
 use Rattle.radiusd.proofs.Headlines.{headline_idle}
 use Rattle.radiusd.proofs.Statuses.{FaultGives-by_fault, IsRefused-by_fault, unbuilt_course, checked_course, serving_course, ordered, folder_of_order, SiteGives-by_fault}
 use Rattle.radiusd.proofs.top.run.Goals as goal

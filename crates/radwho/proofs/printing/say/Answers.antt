@@ -1,5 +1,5 @@
 use Rattle.rad_outside.specs.Telling.{Rose}
-use Rattle.radwho.proofs.Printings.{writes_front, writes_whole}
+use Rattle.rad_outside.proofs.Printings.{writes_front, writes_whole}
 use Rattle.radwho.proofs.printing.say.Goals as goal
 
 pub returns-clause-whole : goal.returns-clause-whole

@@ -2,7 +2,7 @@ use Rattle.std.proofs.Common.{◌≡◌, refl}
 use Rattle.rad_outside.specs.Files.{FilesTold}
 use Rattle.rad_outside.specs.declared.files.Found.TheVariants as found
 use Rattle.radwho.specs.Run.{IsLog}
-use Rattle.radwho.proofs.Telling.{Tells-same, Tells-weaker}
+use Rattle.rad_outside.proofs.Tellings.{Tells-same, Tells-weaker}
 use Rattle.radwho.proofs.Logs.{log_read, log_bad}
 use Rattle.radwho.proofs.showing.log_at.Goals as goal
 

@@ -1,16 +1,25 @@
-use Rattle.std.proofs.Common.{rules, ◌≡◌, ◌++◌, None, OnErr, ◌+◌, length, List}
+use Rattle.std.specs.Prelude.{IfOk}
+use Rattle.std.specs.Option.{option_copied}
+use Rattle.unlang_code.specs.Choosing.{taken_of}
+use Rattle.unlang_code.specs.Serving.{AreServed}
+use Rattle.unlang_code.proofs.Asking.{captures_keep_time, taken_is_so}
+use Rattle.unlang_code.proofs.Taking.{taken_reaches, taken_stops, untaken_reaches, question_stops}
+use Rattle.std.proofs.Common.{rules, ◌≤◌, ◌≡◌, ◌++◌, None, OnErr, ◌+◌, length, List}
 use Rattle.std.specs.List.{AllByRecursion}
 use Rattle.mod_base.specs.Reaching.{Reaches, Stops}
 use Rattle.unlang_tree.specs.EachCall.{calls_in, calls_in_kind, calls_of}
 use Rattle.unlang_code.specs.Run.{kind_done, run_of, rotated}
 use Rattle.unlang_code.specs.Progressing.{done_in, ends_as}
 use Rattle.unlang_code.specs.Serving.{IsServed}
-use Rattle.unlang_tree.proofs.CallsWithin.{calls_of_group}
+use Rattle.unlang_tree.proofs.CallsWithin.{calls_of_group, calls_of_if}
 use Rattle.unlang_tree.specs.declared.statement.Call.{Call}
-use Rattle.unlang_code.proofs.Served.{each_at, size_of_block, halves, most_halves}
+use Rattle.unlang_code.proofs.Served.{each_at, each_arm, each_below, size_of_block, size_of_if, halves, most_halves}
 use Rattle.unlang_tree.proofs.statement.StatementKind.TheLaws as kind
 use denote.Param.Weighed.{at_most, most}
 use Rattle.unlang_tree.proofs.statement.Statement.TheLaws as one
+use Rattle.unlang_tree.proofs.statement.Arm.TheLaws as arm
+use Rattle.unlang_tree.specs.declared.statement.Arm.{Arm, out-Arm}
+use Rattle.unlang_code.specs.Run.{if_done}
 use Rattle.std.proofs.Common.{arith, take, drop, sym, ap, subst, ◌∙◌}
 use Rattle.mod_base.proofs.Reached.{reaches_start, reaches_joined, reaches_then, reaches_as}
 use Rattle.unlang_tree.specs.declared.statement.Statement.{Statement}
@@ -21,7 +30,7 @@ use Rattle.unlang_code.proofs.Pieces.{finished, ends_is}
 use Rattle.unlang_code.specs.declared.progress.Progress.{Progress}
 use Rattle.unlang_code.specs.declared.progress.Progress.TheVariants.{Going, Over}
 use Rattle.unlang_code.proofs.Balancing.{first_stops, first_done, others_stop, picked_within, none_done, ordered, balanced_done, balanced_stops, reaches_at}
-use Rattle.unlang_code.proofs.Trees.{by_kind, by_call, by_return, by_update, by_group}
+use Rattle.unlang_code.proofs.Trees.{by_kind, by_call, by_return, by_update, by_group, by_if}
 use Rattle.unlang_code.proofs.Running.{on_err, if_err, if_ok, update_reaches, update_stops}
 use Rattle.unlang_code.proofs.Stepping.{left, from_here, goes_on_here, ends_here, stops_here, ends_behind}
 use Rattle.std.proofs.Common.{Some}
@@ -263,3 +272,59 @@ pub run_statement-returns-in_default-clause-ok : goal.run_statement-returns-in_d
 run_statement-returns-in_default-clause-ok g t c =
     let Reached : Piece → Type 0 = λ (p : Piece). Reaches c.args.scope.now (g.W.World.state c.args.world.now) (p c.args.kind) c.run_kind.new.scope (g.W.World.state c.run_kind.new.world) (done_in c.in_ok-done.done) in
     subst Reached (sym (by_kind g.M.Module.meaning c.args.stack.now c.args.dict.now c.args.section c.args.statement.now)) c.in_ok-done.ensures.ok
+
+pub run_kind-run_if-requires : goal.run_kind-run_if-requires
+run_kind-run_if-requires g t c κs within = (omega (arith, c.decreases, ap kind.the_size c.in-If.is, size_of_if c.in-If.arms, ap (most arm.the_size) c.as_slice-in-If.ensures), (search rules, (search rules, (search rules, (subst (AllByRecursion (λ (a : Arm). AllByRecursion (IsServed g.M.Module.meaning c.args.stack.now c.args.section) (calls_of (out-Arm a).statements))) (sym c.as_slice-in-If.ensures) (each_arm (IsServed g.M.Module.meaning c.args.stack.now c.args.section) c.in-If.arms (subst (AllByRecursion (IsServed g.M.Module.meaning c.args.stack.now c.args.section)) (ap calls_in_kind c.in-If.is ∙ calls_of_if c.in-If.arms) c.requires.served)), (c.requires.in_time, c.requires.changes))))))
+
+pub run_kind-returns-in-If-clause-memory : goal.run_kind-returns-in-If-clause-memory
+run_kind-returns-in-If-clause-memory g t c =
+    let Stopped : Piece → Type 0 = λ (p : Piece). OnErr c.run_if.result (Stops c.args.scope.now (g.W.World.state c.args.world.now) (λ s. (p c.args.kind s).situation.effects) (g.W.World.state c.run_if.new.world)) in
+    subst Stopped (ap (if_done g.M.Module.meaning c.args.stack.now c.args.dict.now c.args.section) c.as_slice-in-If.ensures ∙ sym (ap (kind_done g.M.Module.meaning c.args.stack.now c.args.dict.now c.args.section) c.in-If.is ∙ by_if g.M.Module.meaning c.args.stack.now c.args.dict.now c.args.section c.in-If.arms)) c.run_if.ensures.memory
+
+pub run_arm-returns-in_err-ended-clause-memory : goal.run_arm-returns-in_err-ended-clause-memory
+run_arm-returns-in_err-ended-clause-memory g t c = rw (← c.as_slice.ensures) (on_err c.from_residual.result c.in_err-ended.ensures.memory)
+
+pub run_if-run_arm-requires : goal.run_if-run_arm-requires
+run_if-run_arm-requires g t c κs within =
+    let is = subst (λ o. taken_of c.args.dict.now c.args.arms.now c.args.scope.now ≡ (option_copied o, c.taken_of.new.scope)) c.in-Some.is c.in_ok-taken.ensures.taken in
+    let smaller : arm.the_size c.in-Some.arm.now ≤ most arm.the_size c.args.arms.now =
+    taken_is_so (λ (a : Arm). arm.the_size a ≤ most arm.the_size c.args.arms.now) c.args.dict.now c.args.arms.now c.args.scope.now c.taken_of.new.scope c.in-Some.arm.now (each_below arm.the_size c.args.arms.now) is in
+    let served = taken_is_so (λ (a : Arm). AreServed g.M.Module.meaning c.args.stack.now c.args.section (out-Arm a).statements) c.args.dict.now c.args.arms.now c.args.scope.now c.taken_of.new.scope c.in-Some.arm.now c.requires.served is in
+    (omega (arith, c.decreases, smaller), (search rules, (search rules, (search rules, (served, (captures_keep_time c.args.scope.now c.taken_of.new.scope c.taken_of.ensures.alone c.requires.in_time, c.requires.changes))))))
+
+pub run_if-returns-in_err-taken-clause-memory : goal.run_if-returns-in_err-taken-clause-memory
+run_if-returns-in_err-taken-clause-memory g t c =
+    on_err c.from_residual.result (question_stops g.M.Module.meaning g.met.M.Module.lawful c.args.stack.now c.args.dict.now c.args.section c.args.kind c.args.arms.now c.args.scope.now (g.W.World.state c.args.world.now))
+
+pub run_if-returns-in-Some-clause-ok : goal.run_if-returns-in-Some-clause-ok
+run_if-returns-in-Some-clause-ok g t c =
+    let is = subst (λ o. taken_of c.args.dict.now c.args.arms.now c.args.scope.now ≡ (option_copied o, c.taken_of.new.scope)) c.in-Some.is c.in_ok-taken.ensures.taken in
+    if_ok c.run_arm.result (λ value reached. taken_reaches g.M.Module.meaning c.args.stack.now c.args.dict.now c.args.section c.args.kind c.args.arms.now c.args.scope.now c.taken_of.new.scope (g.W.World.state c.args.world.now) c.in-Some.arm.now is c.run_arm.new.scope (g.W.World.state c.run_arm.new.world) value reached) c.run_arm.ensures.ok
+
+pub run_if-returns-in-Some-clause-memory : goal.run_if-returns-in-Some-clause-memory
+run_if-returns-in-Some-clause-memory g t c =
+    let is = subst (λ o. taken_of c.args.dict.now c.args.arms.now c.args.scope.now ≡ (option_copied o, c.taken_of.new.scope)) c.in-Some.is c.in_ok-taken.ensures.taken in
+    if_err c.run_arm.result (taken_stops g.M.Module.meaning c.args.stack.now c.args.dict.now c.args.section c.args.kind c.args.arms.now c.args.scope.now c.taken_of.new.scope (g.W.World.state c.args.world.now) c.in-Some.arm.now is (g.W.World.state c.run_arm.new.world)) c.run_arm.ensures.memory
+
+pub run_if-returns-in-None-clause-ok : goal.run_if-returns-in-None-clause-ok
+run_if-returns-in-None-clause-ok g t c =
+    let is = subst (λ o. taken_of c.args.dict.now c.args.arms.now c.args.scope.now ≡ (option_copied o, c.taken_of.new.scope)) c.in-None.is c.in_ok-taken.ensures.taken in
+    rw c.not_taken.ensures (untaken_reaches g.M.Module.meaning c.args.stack.now c.args.dict.now c.args.section c.args.kind c.args.arms.now c.args.scope.now c.taken_of.new.scope (g.W.World.state c.args.world.now) is)
+
+pub run_if-returns-in-None-clause-in_time : goal.run_if-returns-in-None-clause-in_time
+run_if-returns-in-None-clause-in_time g t c = captures_keep_time c.args.scope.now c.taken_of.new.scope c.taken_of.ensures.alone c.requires.in_time
+
+pub run_kind-returns-in-Call-clause-ok : goal.run_kind-returns-in-Call-clause-ok
+run_kind-returns-in-Call-clause-ok g t c =
+    let Reached : Piece → Type 0 = λ (p : Piece). IfOk c.call.result (λ value. Reaches c.args.scope.now (g.W.World.state c.args.world.now) (p c.args.kind) c.call.new.scope (g.W.World.state c.call.new.world) (done_in value)) in
+    subst Reached (sym (ap (kind_done g.M.Module.meaning c.args.stack.now c.args.dict.now c.args.section) c.in-Call.is ∙ by_call g.M.Module.meaning c.args.stack.now c.args.dict.now c.args.section c.in-Call.called)) c.call.ensures.ok
+
+pub run_kind-returns-in-Group-clause-ok : goal.run_kind-returns-in-Group-clause-ok
+run_kind-returns-in-Group-clause-ok g t c =
+    let Reached : Piece → Type 0 = λ (p : Piece). IfOk c.run_group.result (λ value. Reaches c.args.scope.now (g.W.World.state c.args.world.now) (p c.args.kind) c.run_group.new.scope (g.W.World.state c.run_group.new.world) (done_in value)) in
+    subst Reached (sym (ap (kind_done g.M.Module.meaning c.args.stack.now c.args.dict.now c.args.section) c.in-Group.is ∙ by_group g.M.Module.meaning c.args.stack.now c.args.dict.now c.args.section c.in-Group.group)) c.run_group.ensures.ok
+
+pub run_kind-returns-in-If-clause-ok : goal.run_kind-returns-in-If-clause-ok
+run_kind-returns-in-If-clause-ok g t c =
+    let Reached : Piece → Type 0 = λ (p : Piece). IfOk c.run_if.result (λ value. Reaches c.args.scope.now (g.W.World.state c.args.world.now) (p c.args.kind) c.run_if.new.scope (g.W.World.state c.run_if.new.world) (done_in value)) in
+    subst Reached (ap (if_done g.M.Module.meaning c.args.stack.now c.args.dict.now c.args.section) c.as_slice-in-If.ensures ∙ sym (ap (kind_done g.M.Module.meaning c.args.stack.now c.args.dict.now c.args.section) c.in-If.is ∙ by_if g.M.Module.meaning c.args.stack.now c.args.dict.now c.args.section c.in-If.arms)) c.run_if.ensures.ok

@@ -28,3 +28,9 @@ decreases-run_members g l = 8 * goal.size-run_members g l + 1
 
 abbrev pub decreases-run_statement : goal.decreases-run_statement
 decreases-run_statement g l = 8 * goal.size-run_statement g l
+
+abbrev pub decreases-run_arm : goal.decreases-run_arm
+decreases-run_arm g l = 8 * goal.size-run_arm g l
+
+abbrev pub decreases-run_if : goal.decreases-run_if
+decreases-run_if g l = 8 * goal.size-run_if g l + 1

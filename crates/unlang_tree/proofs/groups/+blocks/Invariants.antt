@@ -16,6 +16,9 @@ decreases-members_in l = 8 * l.within + 3
 abbrev pub decreases-group_at : goal.decreases-group_at
 decreases-group_at l = 8 * l.within + 4
 
+abbrev pub decreases-arm_at : goal.decreases-arm_at
+decreases-arm_at l = 8 * l.within + 4
+
 abbrev pub decreases-policy_call : goal.decreases-policy_call
 decreases-policy_call l = 8 * l.within + 4
 

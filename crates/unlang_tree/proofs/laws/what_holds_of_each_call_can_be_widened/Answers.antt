@@ -1,5 +1,5 @@
 use Rattle.unlang_tree.specs.EachCall.{Passes}
-use Rattle.unlang_tree.proofs.CallsMet.{each_wider, servers_wider}
+use Rattle.unlang_tree.proofs.EachWider.{each_wider, servers_wider}
 use Rattle.unlang_tree.proofs.laws.what_holds_of_each_call_can_be_widened.Goals as goal
 
 pub returns-clause-statements : goal.returns-clause-statements

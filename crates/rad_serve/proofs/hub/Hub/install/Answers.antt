@@ -3,7 +3,7 @@ use Rattle.std.specs.Arc.{arc_value}
 use Rattle.rad_turn.specs.Sides.{view}
 use Rattle.rad_core.specs.declared.entry.Entry.{Entry}
 use Rattle.rad_core.specs.declared.entry.Entry.TheVariants.{Install}
-use Rattle.rad_site.specs.declared.fault.BuildFault.{BuildFault}
+use Rattle.rad_build.specs.declared.fault.BuildFault.{BuildFault}
 use Rattle.rad_site.specs.Site.{Site}
 use Rattle.rad_serve.specs.declared.counts.Tally.{Tally}
 use Rattle.rad_serve.specs.Counting.{tally_of, with_load}

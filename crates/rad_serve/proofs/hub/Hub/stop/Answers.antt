@@ -3,7 +3,7 @@ use Rattle.rad_turn.specs.Sides.{view}
 use Rattle.rad_core.specs.State.{ServerState}
 use Rattle.rad_core.specs.declared.entry.Entry.{Entry}
 use Rattle.rad_core.specs.declared.entry.Entry.TheVariants.{Stop}
-use Rattle.rad_site.specs.declared.fault.BuildFault.{BuildFault}
+use Rattle.rad_build.specs.declared.fault.BuildFault.{BuildFault}
 use Rattle.rad_site.specs.Site.{Site}
 use Rattle.rad_serve.specs.HubSeen.{HubSeen}
 use Rattle.rad_serve.proofs.Tallies.{tally_still}

@@ -1,8 +1,8 @@
 use Rattle.std.proofs.Common.{[]}
 use Rattle.std.proofs.lemmas.Result.{err_from_is_err_and}
-use Rattle.rad_site.specs.Nodes.{after_each}
+use Rattle.rad_build.specs.Nodes.{after_each}
 use Rattle.rad_site.specs.Built.{with_item}
-use Rattle.rad_site.proofs.BlockItems.{goes_on, goes_wrong, is_done}
+use Rattle.rad_build.proofs.BlockItems.{goes_on, goes_wrong, is_done}
 use Rattle.rad_site.proofs.build.site.each_client.Goals as goal
 
 pub returns-in_err-known : goal.returns-in_err-known

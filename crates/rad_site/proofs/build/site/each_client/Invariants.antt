@@ -1,5 +1,5 @@
 use Rattle.std.proofs.Common.{◌≡◌, [], drop}
-use Rattle.rad_site.specs.Nodes.{after_each}
+use Rattle.rad_build.specs.Nodes.{after_each}
 use Rattle.rad_site.specs.Built.{with_item}
 use Rattle.rad_site.proofs.build.site.each_client.Given as goal
 

@@ -1,14 +1,14 @@
 use Rattle.std.proofs.Common.{List, Result, Err, refl}
 use Rattle.std.proofs.lemmas.Result.{err_from_is_err_and}
 use Rattle.rad_packet.specs.declared.client.Client.{Client}
-use Rattle.rad_site.specs.declared.settings.Settings.{Settings}
+use Rattle.rad_build.specs.declared.settings.Settings.{Settings}
 use Rattle.rad_policy.specs.Policy.{Sources}
-use Rattle.rad_site.specs.declared.fault.BuildFault.{BuildFault}
+use Rattle.rad_build.specs.declared.fault.BuildFault.{BuildFault}
 use Rattle.rad_site.specs.Site.{Site}
-use Rattle.rad_site.specs.Nodes.{◌>>=◌}
-use Rattle.rad_site.specs.ModulesBlock.{modules_in}
+use Rattle.rad_build.specs.Nodes.{◌>>=◌}
+use Rattle.rad_build.specs.ModulesBlock.{modules_in}
 use Rattle.rad_site.specs.Built.{front_in, site_behind, site_of}
-use Rattle.rad_site.proofs.Finding.{FindsIn-pure, FindsIn-stops, FindsIn-then}
+use Rattle.rad_build.proofs.Finding.{FindsIn-pure, FindsIn-stops, FindsIn-then}
 use Rattle.rad_site.proofs.Sites.{behind_clients}
 use Rattle.rad_site.proofs.build.site.site_of.Goals as goal
 

@@ -3,7 +3,7 @@ use Rattle.rad_dict.specs.Definitions.{Definitions}
 use Rattle.mod_base.specs.Reaching.{Reaches}
 use Rattle.rad_wire.specs.Pairs.{pairs_of, requested}
 use Rattle.rad_policy.specs.Seen.{arrived_of}
-use Rattle.rad_site.specs.Decided.{decided}
+use Rattle.rad_access.specs.Decided.{decided}
 use Rattle.rad_site.specs.BareWorld.{bare_state}
 use Rattle.rad_site.specs.Site.{Site}
 use Rattle.rad_site.proofs.Requests.{answers_by}

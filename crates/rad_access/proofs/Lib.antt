@@ -1,0 +1,11 @@
+pub mod Found
+pub mod Moments
+pub mod Running
+pub mod Editing
+pub mod AuthTypes
+pub mod ByLeaves
+pub mod Vouching
+pub mod PasswordsChecked
+pub mod PostAuth
+pub mod Accepted
+pub mod Rejected

@@ -1,0 +1,2 @@
+pub mod SiteModules
+pub mod SiteLaws

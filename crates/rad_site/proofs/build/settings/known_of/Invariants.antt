@@ -1,7 +1,0 @@
-use Rattle.std.proofs.Common.{◌≡◌, drop}
-use Rattle.rad_site.specs.Nodes.{after_each}
-use Rattle.rad_site.specs.Settings.{nothing, with_item}
-use Rattle.rad_site.proofs.build.settings.known_of.Given as goal
-
-abbrev pub invariant-loop-node : goal.invariant-loop-node
-invariant-loop-node l = after_each (with_item l.pooled) l.known (drop l.node-index l.nodes) ≡ after_each (with_item l.pooled) nothing l.nodes
